@@ -1,0 +1,64 @@
+-- Noise goes unnoticed by a deaf machine, whatever number of runs is put in at whatever number of places.
+-- By recursion on how the noise was put in, keeping the two states alike and the second at rest where noise may follow. Assumes nothing.
+use mathlib.Core.Bool.{Bool, true, false}
+use mathlib.Core.List.{List, _∷_}
+use mathlib.Core.Path.{_≡_, refl, sym, ap₂, subst}
+use Rattle.history.specs.History.{Event, Machine, answers, after, fed, AllFit}
+use Rattle.history.specs.Sides.{InStep, Related}
+use Rattle.history.specs.Noise.{Noised, Deaf, Unnoticed}
+use Rattle.history.specs.Noise as N
+use Rattle.history.proofs.History.{closed-answers, closed-after}
+use Rattle.history.proofs.Sides.{in-step, in-pairs-same, Same, beside-itself}
+
+module _ {S A G E O : Type 0} {m : Machine S A G E O} {Fit : G → Type 0} {Noise : List A → Type 0}
+    {Alike : S → S → Type 0} {Rest : S → Type 0} {Mute : O → Type 0} (d : Deaf m Fit Noise Alike Rest Mute) where
+  -- where noise may be put in, the machine is at rest
+  abbrev RestsIf : Bool → S → Type 0
+  RestsIf true s = Rest s
+  RestsIf false s = Unit {0}
+
+  call-rests-if : (fresh : Bool) (s : S) (e : E) → RestsIf fresh s → RestsIf fresh (m .call s e .state)
+  call-rests-if true s e r = d .call-rests s e r
+  call-rests-if false s e r = tt
+
+  unnoticed-if : {fresh : Bool} {h h′ : List (Event A G E)} (n : Noised Fit Noise fresh h h′) (s t : S) → Alike s t → RestsIf fresh t
+      → Unnoticed m Alike Mute n s t
+  unfolding answers after
+  unnoticed-if N.end s t a r = record { unanswered = tt; same = refl; alike = a }
+  unnoticed-if (N.symbol {a = b} n) s t a r =
+      let rest = unnoticed-if n (m .symbol s b) (m .symbol t b) (d .symbol-alike s t b a) tt in
+      record { unanswered = rest .unanswered; same = rest .same; alike = rest .alike }
+  unnoticed-if (N.gap {g = g} f n) s t a r =
+      let now = d .gap-alike s t g f a in
+      let rest = unnoticed-if n (m .gap s g .state) (m .gap t g .state) (now .states) (d .gap-rests t g f) in
+      record { unanswered = rest .unanswered; same = ap₂ (λ (o : O) (os : List O). o ∷ os) (sym (now .answers)) (rest .same); alike = rest .alike }
+  unnoticed-if (N.call {fresh = fresh} {e = e} n) s t a r =
+      let now = d .call-alike s t e a in
+      let rest = unnoticed-if n (m .call s e .state) (m .call t e .state) (now .states) (call-rests-if fresh t e r) in
+      record { unanswered = rest .unanswered; same = ap₂ (λ (o : O) (os : List O). o ∷ os) (sym (now .answers)) (rest .same); alike = rest .alike }
+  unnoticed-if (N.noise {h′ = h′} run g x f n) s t a r =
+      let u = m .gap (fed m t run) g .state in
+      let rest = unnoticed-if n s u (d .alike-trans s t u a (d .noise-alike t run g r x f)) (d .gap-rests (fed m t run) g f) in
+      record {
+        unanswered = rw (closed-answers m t run g h′) (d .noise-mute t run g r x f, rest .unanswered);
+        same = rw (closed-answers m t run g h′) (rest .same);
+        alike = rw (closed-after m t run g h′) (rest .alike);
+      }
+
+  -- from a state at rest, which is like itself
+  pub unnoticed : {h h′ : List (Event A G E)} (n : Noised Fit Noise true h h′) (s : S) → Alike s s → Rest s → Unnoticed m Alike Mute n s s
+  unnoticed n s a r = unnoticed-if n s s a r
+
+  -- a deaf machine keeps step with itself: on one history, states that are alike give the same answers and end alike
+  alike-in-step : InStep m m (λ (a a′ : A). a ≡ a′) (Same Fit) (λ (e e′ : E). e ≡ e′) Alike (λ (o o′ : O). o ≡ o′)
+  alike-in-step =
+      record {
+        symbols = λ s t a a′ p r. subst (λ (x : A). Alike (m .symbol s a) (m .symbol t x)) p (d .symbol-alike s t a r);
+        gaps = λ s t g g′ p r. subst (λ (x : G). Related Alike _≡_ (m .gap s g) (m .gap t x)) (p .same) (d .gap-alike s t g (p .fit) r);
+        calls = λ s t e e′ p r. subst (λ (x : E). Related Alike _≡_ (m .call s e) (m .call t x)) p (d .call-alike s t e r);
+      }
+
+  pub alike-throughout : (h : List (Event A G E)) → AllFit Fit h → (s t : S) → Alike s t → (answers m s h ≡ answers m t h) × Alike (after m s h) (after m t h)
+  alike-throughout h f s t a =
+      let both = in-step alike-in-step (beside-itself Fit h f) s t a in
+      (in-pairs-same _ _ (both .0), both .1)

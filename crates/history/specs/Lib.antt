@@ -1,0 +1,4 @@
+pub mod History
+pub mod Invariant
+pub mod Sides
+pub mod Noise

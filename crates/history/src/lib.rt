@@ -1,0 +1,1 @@
+// Histories of any machine on a line: definitions in specs/, theorems in proofs/, no code.

@@ -1,0 +1,5 @@
+pub mod Calendar
+pub mod Time
+pub mod Label
+pub mod Order
+mod Determined

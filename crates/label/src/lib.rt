@@ -1,0 +1,215 @@
+// Time labels a and b: what they say, whether they are valid, their instant and their order.
+ghost use mathlib.Core.Path.{_≡_};
+ghost use mathlib.Core.Bool.{true};
+ghost use Prim.Native.Nat.{_+_, _-_, _≤_, _<_};
+ghost use Rattle.label.specs.Calendar.{leap, leapDay, monthLength, daysToYear, daysOfMonths};
+ghost use Rattle.label.specs.Time.{real, minutes};
+ghost use Rattle.label.specs.Label.{dateTimeA, validA, instant, beforeA, second, millisecond, validB, inMinute, beforeB};
+
+// A date and time: the year's last two figures, 0 to 99 for 2000 to 2099. Any five numbers are a value; not every one is a real date.
+pub struct DateTime {
+    pub year: u8,
+    pub month: u8,
+    pub day: u8,
+    pub hour: u8,
+    pub minute: u8,
+}
+
+// Label a, its five octets as they stand on the wire, each named after what its low bits hold.
+pub struct LabelA {
+    pub minute: u8,
+    pub hour: u8,
+    pub day: u8,
+    pub month: u8,
+    pub year: u8,
+}
+
+// Label b: two octets of milliseconds and seconds, low octet first, and a label a.
+pub struct LabelB {
+    pub low: u8,
+    pub high: u8,
+    pub a: LabelA,
+}
+
+impl DateTime {
+    // Whether the calendar has such a date and the clock such a time.
+    pub fn is_real(self) -> bool
+        ensures { λ r. ⌜ r ≡ real self ⌝ }
+    {
+        if 99 < self.year {
+            return false;
+        }
+        if self.month < 1 {
+            return false;
+        }
+        if 12 < self.month {
+            return false;
+        }
+        if self.day < 1 {
+            return false;
+        }
+        if month_length(self.year, self.month) < self.day {
+            return false;
+        }
+        if 23 < self.hour {
+            return false;
+        }
+        self.minute <= 59
+    }
+
+    // The minutes since 1 January 2000 00:00.
+    fn minutes(self) -> u32
+        requires { ⌜ real self ≡ true ⌝ }
+        ensures { λ r. ⌜ r ≡ minutes self ⌝ }
+    {
+        let day = days_before(self.year, self.month) + self.day as u32 - 1;
+        day * 1440 + self.hour as u32 * 60 + self.minute as u32
+    }
+}
+
+impl LabelA {
+    // The date and time that the label says.
+    pub fn date_time(self) -> DateTime
+        ensures { λ r. ⌜ r ≡ dateTimeA self ⌝ }
+    {
+        DateTime {
+            year: self.year % 128,
+            month: self.month % 16,
+            day: self.day % 32,
+            hour: self.hour % 32,
+            minute: self.minute % 64,
+        }
+    }
+
+    // Whether it is a real date and time, with IV, TIS, ETI, PTI and the reserved bits 0.
+    pub fn is_valid(self) -> bool
+        ensures { λ r. ⌜ r ≡ validA self ⌝ }
+    {
+        // IV
+        if self.minute / 128 != 0 {
+            return false;
+        }
+        // TIS
+        if self.minute / 64 % 2 != 0 {
+            return false;
+        }
+        // the reserved bits between the hour and SU
+        if self.hour / 32 % 4 != 0 {
+            return false;
+        }
+        // ETI and PTI
+        if self.month / 16 != 0 {
+            return false;
+        }
+        // the reserved bit above the year
+        if self.year / 128 != 0 {
+            return false;
+        }
+        self.date_time().is_real()
+    }
+
+    // The minutes since 1 January 2000 00:00, and 0 of a label that is not valid.
+    pub fn instant(self) -> i64
+        ensures { λ r. ⌜ r ≡ instant self ⌝ }
+    {
+        if self.is_valid() {
+            return self.date_time().minutes() as i64;
+        }
+        0
+    }
+
+    // Whether it lies before another label by their instants.
+    pub fn is_before(self, other: LabelA) -> bool
+        ensures { λ r. ⌜ r ≡ beforeA self other ⌝ }
+    {
+        self.instant() < other.instant()
+    }
+}
+
+impl LabelB {
+    pub fn second(self) -> u8
+        ensures { λ r. ⌜ r ≡ second self ⌝ }
+    {
+        (octets::low_first_2(self.low, self.high) / 1024) as u8
+    }
+
+    pub fn millisecond(self) -> u16
+        ensures { λ r. ⌜ r ≡ millisecond self ⌝ }
+    {
+        octets::low_first_2(self.low, self.high) % 1024
+    }
+
+    // Whether its label a is valid, and the seconds and milliseconds are those of a clock.
+    pub fn is_valid(self) -> bool
+        ensures { λ r. ⌜ r ≡ validB self ⌝ }
+    {
+        if 59 < self.second() {
+            return false;
+        }
+        if 999 < self.millisecond() {
+            return false;
+        }
+        self.a.is_valid()
+    }
+
+    // The milliseconds since its minute began.
+    pub fn in_minute(self) -> u16
+        ensures { λ r. ⌜ r ≡ inMinute self ⌝ }
+    {
+        self.second() as u16 * 1000 + self.millisecond()
+    }
+
+    // Whether it lies before another label by their instants, and in one minute by their milliseconds.
+    pub fn is_before(self, other: LabelB) -> bool
+        ensures { λ r. ⌜ r ≡ beforeB self other ⌝ }
+    {
+        let mine = self.a.instant();
+        let theirs = other.a.instant();
+        if mine < theirs {
+            return true;
+        }
+        if theirs < mine {
+            return false;
+        }
+        self.in_minute() < other.in_minute()
+    }
+}
+
+// The calendar of 2000 to 2099: the lengths of the months, and the days before each month, of a year that is no leap year.
+const LENGTHS: [u8; 12] = [31, 28, 31, 30, 31, 30, 31, 31, 30, 31, 30, 31];
+
+const BEFORE: [u16; 12] = [0, 31, 59, 90, 120, 151, 181, 212, 243, 273, 304, 334];
+
+// 1 in a leap year, and 0 in any other. 2000 is one, so every fourth year is.
+fn leap_day(year: u8) -> u8
+    requires { ⌜ year < 100 ⌝ }
+    ensures { λ r. ⌜ r ≡ leapDay (leap year) ⌝ }
+{
+    if year % 4 == 0 { 1 } else { 0 }
+}
+
+fn month_length(year: u8, month: u8) -> u8
+    requires { ⌜ (year < 100) × (1 ≤ month) × (month ≤ 12) ⌝ }
+    ensures { λ r. ⌜ r ≡ monthLength (leap year) month ⌝ }
+{
+    let at = month as usize - 1;
+    let length = LENGTHS[at];
+    if month == 2 {
+        return length + leap_day(year);
+    }
+    length
+}
+
+// The days from 1 January 2000 to the first of a month.
+fn days_before(year: u8, month: u8) -> u32
+    requires { ⌜ (year < 100) × (1 ≤ month) × (month ≤ 12) ⌝ }
+    ensures { λ r. ⌜ r ≡ daysToYear year + daysOfMonths (leap year) (month - 1) ⌝ }
+{
+    let y = year as u32;
+    let at = month as usize - 1;
+    let days = 365 * y + (y + 3) / 4 + BEFORE[at] as u32;
+    if 2 < month {
+        return days + leap_day(year) as u32;
+    }
+    days
+}
