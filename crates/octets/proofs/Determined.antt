@@ -1,7 +1,7 @@
 -- Every public contract of this crate leaves one outcome.
 -- By its one equation, or by the law of its relation. Assumes nothing.
 use denote.Ref.{now}
-use Rattle.octets.proofs.Outcome.{OneResult, OneOutcome, one-outcome}
+use Rattle.octets.proofs.Outcome.{OneResult, OneOutcome, OneReading, one-outcome}
 use Rattle.octets.proofs.Over.{put-one}
 use Rattle.octets.proofs.low_first_2.Reads as low-first-2
 use Rattle.octets.proofs.high_first_2.Reads as high-first-2
@@ -12,6 +12,7 @@ use Rattle.octets.proofs.low_octets_4.Reads as low-octets-4
 use Rattle.octets.proofs.signed.Reads as signed
 use Rattle.octets.proofs.unsigned.Reads as unsigned
 use Rattle.octets.proofs.checksum.Reads as checksum
+use Rattle.octets.proofs.part.Reads as part
 use Rattle.octets.proofs.put.Reads as put
 
 low-first-2-one : OneResult low-first-2.Post
@@ -40,6 +41,9 @@ unsigned-one κs a r r′ s s′ = one-outcome
 
 checksum-one : OneResult checksum.Post
 checksum-one κs a r r′ s s′ = one-outcome
+
+part-one : OneReading (λ κs r. now r) part.Post
+part-one κs a r r′ s s′ = one-outcome
 
 put-one-outcome : OneOutcome (λ κs s. now (s .0)) put.Post
 put-one-outcome κs a r r′ s s′ = put-one

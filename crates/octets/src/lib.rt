@@ -2,7 +2,7 @@
 ghost use mathlib.Core.Path.{_≡_};
 ghost use mathlib.Core.List.{[], _∷_};
 ghost use Prim.Native.Nat.{_+_, _≤_};
-ghost use lib.ListN.{length};
+ghost use lib.ListN.{length, take, drop};
 ghost use Rattle.octets.specs.Numbers.{lowFirst, highFirst, lowOctets};
 ghost use Rattle.octets.specs.Values.{signed, unsigned};
 ghost use Rattle.octets.specs.Sum.{checksum};
@@ -86,6 +86,21 @@ pub fn checksum(octets: &[u8]) -> u8
         i += 1;
     }
     sum
+}
+
+// A part of a slice: so many octets from index `at` on, or as many as there are.
+pub fn part(s: &[u8], at: usize, many: usize) -> &[u8]
+    ensures { λ r. ⌜ now r ≡ take many (drop at (now (s .entry))) ⌝ }
+{
+    let n = s.len();
+    if n <= at {
+        return &s[n..];
+    }
+    if many <= n - at {
+        let end = at + many;
+        return &s[at..end];
+    }
+    &s[at..]
 }
 
 // Writes `top` over the buffer from index `at` on, or answers false and leaves the buffer as it was: `top` does not fit there.

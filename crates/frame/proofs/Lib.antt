@@ -1,0 +1,8 @@
+pub mod Sealed
+pub mod Frame
+pub mod Judging
+pub mod Control
+pub mod Writing
+pub mod RoundTrip
+pub mod OneOctet
+mod Determined

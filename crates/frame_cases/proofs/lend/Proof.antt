@@ -1,0 +1,36 @@
+-- `lend` lends a part that the buffer has.
+-- By its length. Assumes nothing.
+use mathlib.Core.Path.{sym}
+use lib.Seq.{length-take-le}
+use borrow.Author.Needs.{needs}
+use Rattle.frame_cases.proofs.lend.Statement.{statement}
+use Rattle.frame_cases.proofs.lend.Tie as tie
+
+slice-relend-prefix-write : tie.Need-slice-relend-prefix-write
+slice-relend-prefix-write c = search needs
+
+slice-aggregate-write : tie.Need-slice-aggregate-write
+slice-aggregate-write c = sym (length-take-le _ _ (search needs))
+
+write-requires : tie.Need-write-requires
+write-requires c κs = search needs
+
+same-length : tie.Need-same-length
+same-length c = search needs
+
+returns : tie.Need-returns
+returns c = search needs
+
+returns-2 : tie.Need-returns-2
+returns-2 c = search needs
+
+pub lend-spec : {M : Type 1} → statement M
+lend-spec =
+    tie.close
+    (tie.spec
+    slice-relend-prefix-write
+    slice-aggregate-write
+    write-requires
+    same-length
+    returns
+    returns-2)
