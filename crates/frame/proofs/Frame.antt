@@ -14,7 +14,7 @@ use Rattle.octets.specs.Sum.{checksum}
 use Rattle.octets.proofs.Choice.{refuted}
 use Rattle.octets.proofs.Conditions.{holds-at, holds-none, holds-more}
 use Rattle.frame.specs.Family.{Family}
-use Rattle.frame.specs.Frame.{Frame, Verdict, refused, sound, between, sumRight, fixedForm, variableForm, startOf, saidFixed, saidVariable, said, judge}
+use Rattle.frame.specs.Frame.{Frame, Verdict, refused, sound, covered, sumRight, fixedForm, variableForm, startOf, saidFixed, saidVariable, said, judge}
 
 pub record FixedRun (k : Family) (run : List ℕ) : Type 0 where
   pub long : length run ≡ k .width + 4
@@ -29,7 +29,7 @@ pub record VariableRun (k : Family) (run : List ℕ) : Type 0 where
   pub fourth : getD run 3 0 ≡ 0x68
   pub last : getD run (length run - 1) 0 ≡ 0x16
 
-pub sum-facts : (start : ℕ) (run : List ℕ) → sumRight start run ≡ true → checksum (between start run) ≡ getD run (length run - 2) 0
+pub sum-facts : (start : ℕ) (run : List ℕ) → sumRight start run ≡ true → checksum (covered start run) ≡ getD run (length run - 2) 0
 unfolding sumRight
 sum-facts start run e = eqb-true _ _ e
 
@@ -102,19 +102,19 @@ module _ (k : Family) (run : List ℕ) where
     by-sum true x y = refl
     by-sum false x y = refl
 
-    pub judge-fixed : fixedForm k run ≡ true → judge k run ≡ (if sumRight 1 run then sound (saidFixed k (between 1 run)) else refused 4)
+    pub judge-fixed : fixedForm k run ≡ true → judge k run ≡ (if sumRight 1 run then sound (saidFixed k (covered 1 run)) else refused 4)
     unfolding judge startOf said
     judge-fixed f = rw (ne-eqb _ _ some, le-ltb _ _ short, f) (by-sum (sumRight 1 run) _ _)
 
     pub judge-variable : fixedForm k run ≡ false → variableForm k run ≡ true
-        → judge k run ≡ (if sumRight 4 run then sound (saidVariable k (between 4 run)) else refused 4)
+        → judge k run ≡ (if sumRight 4 run then sound (saidVariable k (covered 4 run)) else refused 4)
     unfolding judge startOf said
     judge-variable f v = rw (ne-eqb _ _ some, le-ltb _ _ short, f, v) (by-sum (sumRight 4 run) _ _)
 
 -- a sound run is of one form, with its sum right, and says what stands in it
 pub data Sound (k : Family) (run : List ℕ) (f : Frame) : Type 0 where
-  as-fixed : FixedRun k run → sumRight 1 run ≡ true → f ≡ saidFixed k (between 1 run) → Sound k run f
-  as-variable : VariableRun k run → sumRight 4 run ≡ true → f ≡ saidVariable k (between 4 run) → Sound k run f
+  as-fixed : FixedRun k run → sumRight 1 run ≡ true → f ≡ saidFixed k (covered 1 run) → Sound k run f
+  as-variable : VariableRun k run → sumRight 4 run ≡ true → f ≡ saidVariable k (covered 4 run) → Sound k run f
 
 never : {n : ℕ} {f : Frame} → refused n ≡ sound f → ⊥
 never e = let z : _≡_ {A = ℕ} 0 1 = cc in omega arith

@@ -14,9 +14,9 @@ use Rattle.octets.proofs.Outcome.{determined}
 use Rattle.frame.specs.declared.Judged.{Judged}
 use Rattle.frame.specs.declared.Judged.the-variants.{Empty, Long, Malformed, Spoiled, Fixed, Variable}
 use Rattle.frame.specs.Family.{sapr}
-use Rattle.frame.specs.Frame.{between, sumRight, fixedForm, variableForm, saidFixed, saidVariable, judge}
+use Rattle.frame.specs.Frame.{covered, sumRight, fixedForm, variableForm, saidFixed, saidVariable, judge}
 use Rattle.frame.specs.Judging.{verdictSays, judgedSays}
-use Rattle.frame.proofs.Sealed.{between-length, between-at, part-between}
+use Rattle.frame.proofs.Sealed.{covered-length, covered-at, part-covered}
 use Rattle.frame.proofs.Frame.{fixed-facts, variable-facts, judge-fixed, judge-variable}
 
 module _ (run : List ℕ) (some : length run ≡ 0 → ⊥) (short : length run ≤ 261) where
@@ -25,7 +25,7 @@ module _ (run : List ℕ) (some : length run ≡ 0 → ⊥) (short : length run 
   unfolding saidFixed
   says-fixed a f s e =
       let h = fixed-facts sapr run f in
-      rw (judge-fixed sapr run some short f, s, between-at 1 run (omega arith) 0 (omega arith), part-between 1 run (omega arith) 2 1 (omega arith), e)
+      rw (judge-fixed sapr run some short f, s, covered-at 1 run (omega arith) 0 (omega arith), part-covered 1 run (omega arith) 2 1 (omega arith), e)
 
   pub says-variable : (a users : ℕ) → fixedForm sapr run ≡ false → variableForm sapr run ≡ true → sumRight 4 run ≡ true
       → a ≡ lowFirst (getD run 5 0 ∷ getD run 6 0 ∷ []) → users ≡ length run - 9
@@ -33,8 +33,8 @@ module _ (run : List ℕ) (some : length run ≡ 0 → ⊥) (short : length run 
   unfolding saidVariable
   says-variable a users f v s e n =
       let h = variable-facts sapr run v in
-      let count : length (drop 2 (drop 1 (between 4 run))) ≡ users = simp (length-drop, between-length 4 run (omega arith)) (omega arith) in
-      rw (judge-variable sapr run some short f v, s, between-at 4 run (omega arith) 0 (omega arith), part-between 4 run (omega arith) 2 1 (omega arith), e, count)
+      let count : length (drop 2 (drop 1 (covered 4 run))) ≡ users = simp (length-drop, covered-length 4 run (omega arith)) (omega arith) in
+      rw (judge-variable sapr run some short f v, s, covered-at 4 run (omega arith) 0 (omega arith), part-covered 4 run (omega arith) 2 1 (omega arith), e, count)
 
   pub says-spoiled-fixed : fixedForm sapr run ≡ true → sumRight 1 run ≡ false → judgedSays Spoiled ≡ verdictSays (judge sapr run)
   says-spoiled-fixed f s = rw (judge-fixed sapr run some short f, s)

@@ -13,8 +13,8 @@ use Rattle.octets.specs.Sum.{octetSum, checksum}
 use Rattle.octets.proofs.Numbers.{Octets}
 use Rattle.octets.proofs.Sum.{octet-sum-set}
 use Rattle.frame.specs.Family.{Family, Proper}
-use Rattle.frame.specs.Frame.{Frame, sound, between, sumRight, judge}
-use Rattle.frame.proofs.Sealed.{between-length, between-at}
+use Rattle.frame.specs.Frame.{Frame, sound, covered, sumRight, judge}
+use Rattle.frame.proofs.Sealed.{covered-length, covered-at}
 use Rattle.frame.proofs.Frame.{FixedRun, VariableRun, Sound, as-fixed, as-variable, sound-facts, sum-facts}
 
 -- sums that are the same but for one octet
@@ -27,7 +27,7 @@ module _ (run : List ℕ) (octets : Octets run) (new : ℕ) (small : new < 256) 
     abbrev many : ℕ
     many = length run - (start + 2)
 
-    changed : between start (set run (start + j) new) ≡ take many (set (drop start run) j new)
+    changed : covered start (set run (start + j) new) ≡ take many (set (drop start run) j new)
     changed = rw (length-set, drop-set-add)
 
     sum-before : checksum (take many (drop start run)) ≡ getD run (length run - 2) 0
@@ -52,8 +52,8 @@ module _ (run : List ℕ) (octets : Octets run) (new : ℕ) (small : new < 256) 
         let j-in : j < many = omega arith in
         let b = take many (drop start run) in
         let stays : getD (set run (start + j) new) (length run - 2) 0 ≡ getD run (length run - 2) 0 = getD-set-other run (start + j) (length run - 2) new 0 (λ e. omega arith) in
-        let there : getD b j 0 ≡ getD run (start + j) 0 = between-at start run (omega arith) j (omega arith) in
-        let long : j < length b = omega (arith, between-length start run (omega arith)) in
+        let there : getD b j 0 ≡ getD run (start + j) 0 = covered-at start run (omega arith) j (omega arith) in
+        let long : j < length b = omega (arith, covered-length start run (omega arith)) in
         let sums = octet-sum-set b j new long in
         let same : octetSum (set b j new) % 256 ≡ octetSum b % 256 = rw (← take-set-lt many (drop start run) j new j-in) (sum-after ∙ stays ∙ sym sum-before) in
         sym (one-value _ _ _ _ sums same (omega (arith, octets (start + j))) small) ∙ there

@@ -18,8 +18,8 @@ use Rattle.frame.specs.declared.Kind.the-variants.{Ack, Nack, Nothing, S
 use Rattle.frame.specs.declared.Reply.{Reply}
 use Rattle.frame.specs.Family.{Family, Proper, sapr}
 use Rattle.frame.specs.Writing.{userOf, frameAs, replyFrame, replyOctets}
-use Rattle.frame.specs.Frame.{Frame, sound, fixed, variable, between, sumRight, saidFixed, saidVariable, judge, bodyOf, startWith, written}
-use Rattle.frame.proofs.Sealed.{sealed, sealed-length, sealed-body, sealed-sum, sealed-end, between-length, unsealed}
+use Rattle.frame.specs.Frame.{Frame, sound, fixed, variable, covered, sumRight, saidFixed, saidVariable, judge, bodyOf, startWith, written}
+use Rattle.frame.proofs.Sealed.{sealed, sealed-length, sealed-body, sealed-sum, sealed-end, covered-length, unsealed}
 use Rattle.frame.proofs.Frame.{FixedRun, VariableRun, fixed-test, variable-test, not-fixed, judge-fixed, judge-variable, Sound, as-fixed, as-variable, sound-facts, sum-facts}
 
 -- the checksum of what was put together is right
@@ -106,37 +106,37 @@ first-octets : (width : ℕ) (run : List ℕ) → width ≤ length run → take 
 first-octets width run h = part-at width run 0 (omega arith)
 
 module _ (k : Family) (proper : Proper k) (run : List ℕ) (octets : Octets run) where
-  octets-of : (start : ℕ) → Octets (between start run)
+  octets-of : (start : ℕ) → Octets (covered start run)
   octets-of start = octets-take (length run - (start + 2)) (drop start run) (octets-drop start run octets)
 
-  address-again : (start n : ℕ) → length (between start run) ≡ n → suc (k .width) ≤ n
-      → lowOctets (k .width) (lowFirst (take (k .width) (drop 1 (between start run)))) ≡ take (k .width) (drop 1 (between start run))
+  address-again : (start n : ℕ) → length (covered start run) ≡ n → suc (k .width) ≤ n
+      → lowOctets (k .width) (lowFirst (take (k .width) (drop 1 (covered start run)))) ≡ take (k .width) (drop 1 (covered start run))
   address-again start n long h =
-      let rest : length (drop 1 (between start run)) ≡ n - 1 = length-drop 1 (between start run) ∙ ap (λ (m : ℕ). m - 1) long in
-      low-octets (k .width) _ (length-take (k .width) (drop 1 (between start run)) ∙ omega arith)
-      (octets-take (k .width) _ (octets-drop 1 (between start run) (octets-of start)))
+      let rest : length (drop 1 (covered start run)) ≡ n - 1 = length-drop 1 (covered start run) ∙ ap (λ (m : ℕ). m - 1) long in
+      low-octets (k .width) _ (length-take (k .width) (drop 1 (covered start run)) ∙ omega arith)
+      (octets-take (k .width) _ (octets-drop 1 (covered start run) (octets-of start)))
 
   -- a frame with the run's own start and body, where sum and end octet are right
-  again : (f : Frame) (start : ℕ) → start + 2 ≤ length run → startWith k f ≡ take start run → bodyOf k f ≡ between start run → sumRight start run ≡ true
+  again : (f : Frame) (start : ℕ) → start + 2 ≤ length run → startWith k f ≡ take start run → bodyOf k f ≡ covered start run → sumRight start run ≡ true
       → getD run (length run - 1) 0 ≡ 0x16 → written k f ≡ run
   unfolding written
   again f start room starts body sum end = rw (starts, body, sum-facts start run sum) (rw end at (unsealed start run room))
 
-  fixed-again : FixedRun k run → sumRight 1 run ≡ true → written k (saidFixed k (between 1 run)) ≡ run
+  fixed-again : FixedRun k run → sumRight 1 run ≡ true → written k (saidFixed k (covered 1 run)) ≡ run
   unfolding startWith bodyOf saidFixed
   fixed-again r s =
-      let b = between 1 run in
-      let long : length b ≡ suc (k .width) = between-length 1 run (omega (arith, r .long)) ∙ omega (arith, r .long) in
+      let b = covered 1 run in
+      let long : length b ≡ suc (k .width) = covered-length 1 run (omega (arith, r .long)) ∙ omega (arith, r .long) in
       let rest : length (drop 1 b) ≤ k .width = omega (arith, length-drop 1 b) in
       let starts : 0x10 ∷ [] ≡ take 1 run = sym (first-octets 1 run (omega (arith, r .long)) ∙ ap (λ (x : ℕ). x ∷ []) (r .first)) in
       again (saidFixed k b) 1 (omega (arith, r .long)) starts
       (rw (address-again 1 (suc (k .width)) long (omega arith), take-all (k .width) (drop 1 b) rest) (first-rest b (omega arith))) s (r .last)
 
-  variable-again : VariableRun k run → sumRight 4 run ≡ true → written k (saidVariable k (between 4 run)) ≡ run
+  variable-again : VariableRun k run → sumRight 4 run ≡ true → written k (saidVariable k (covered 4 run)) ≡ run
   unfolding startWith bodyOf saidVariable
   variable-again r s =
-      let b = between 4 run in
-      let long : length b ≡ getD run 1 0 = between-length 4 run (omega (arith, r .long, r .least)) ∙ omega (arith, r .long) in
+      let b = covered 4 run in
+      let long : length b ≡ getD run 1 0 = covered-length 4 run (omega (arith, r .long, r .least)) ∙ omega (arith, r .long) in
       let body : bodyOf k (saidVariable k b) ≡ b =
       rw (address-again 4 (getD run 1 0) long (omega (arith, r .least, proper .counts)), take-append-drop) (first-rest b (omega (arith, r .least, proper .counts))) in
       let l = getD run 1 0 in

@@ -8,7 +8,7 @@ use native.Mathlib.Omega.{arith}
 use lib.ListN.{length, getD, take, drop, length-append, length-take, length-drop, take-append-drop, drop-of-length-le}
 use lib.Seq.{take-append-seam, drop-append-seam, getD-append-add, getD-take, getD-drop, drop-drop, drop-cons}
 use Rattle.octets.proofs.Lists.{octetsAt, part-at}
-use Rattle.frame.specs.Frame.{between}
+use Rattle.frame.specs.Frame.{covered}
 
 -- put together
 module _ (start body : List ℕ) (sum end : ℕ) where
@@ -18,7 +18,7 @@ module _ (start body : List ℕ) (sum end : ℕ) where
   pub sealed-length : length sealed ≡ length start + length body + 2
   sealed-length = simp length-append (omega arith)
 
-  pub sealed-body : between (length start) sealed ≡ body
+  pub sealed-body : covered (length start) sealed ≡ body
   sealed-body =
       let long : length sealed - (length start + 2) ≡ length body = omega (arith, sealed-length) in
       rw (drop-append-seam, long, take-append-seam)
@@ -48,15 +48,15 @@ last-octets run two =
     rw (drop-cons run m 0 (omega arith), next, drop-cons run (length run - 1) 0 (omega arith), none)
 
 module _ (start : ℕ) (run : List ℕ) (room : start + 2 ≤ length run) where
-  pub between-length : length (between start run) ≡ length run - (start + 2)
-  between-length = simp (length-take, length-drop) (omega arith)
+  pub covered-length : length (covered start run) ≡ length run - (start + 2)
+  covered-length = simp (length-take, length-drop) (omega arith)
 
-  pub between-at : (i : ℕ) → start + i + 2 < length run → getD (between start run) i 0 ≡ getD run (start + i) 0
-  between-at i h =
+  pub covered-at : (i : ℕ) → start + i + 2 < length run → getD (covered start run) i 0 ≡ getD run (start + i) 0
+  covered-at i h =
       let less : i < length run - (start + 2) = omega arith in
       rw (getD-take (length run - (start + 2)) (drop start run) i 0 less, getD-drop)
 
-  pub unsealed : take start run ++ (between start run ++ (getD run (length run - 2) 0 ∷ getD run (length run - 1) 0 ∷ [])) ≡ run
+  pub unsealed : take start run ++ (covered start run ++ (getD run (length run - 2) 0 ∷ getD run (length run - 1) 0 ∷ [])) ≡ run
   unsealed =
       let n = length run - (start + 2) in
       let place : start + n ≡ length run - 2 = omega arith in
@@ -64,12 +64,12 @@ module _ (start : ℕ) (run : List ℕ) (room : start + 2 ≤ length run) where
       (ap (λ (l : List ℕ). take start run ++ l) (take-append-drop n (drop start run)) ∙ take-append-drop start run)
 
   -- octets of what the checksum covers are octets of the run
-  pub octets-between : (width j : ℕ) → start + j + width + 2 ≤ length run → octetsAt width (between start run) j ≡ octetsAt width run (start + j)
-  octets-between zero j h = refl
-  octets-between (suc width) j h =
-      ap₂ (λ (x : ℕ) (xs : List ℕ). x ∷ xs) (between-at j (omega arith)) (octets-between width (suc j) (omega arith) ∙ ap (octetsAt width run) (add-suc start j))
+  pub octets-covered : (width j : ℕ) → start + j + width + 2 ≤ length run → octetsAt width (covered start run) j ≡ octetsAt width run (start + j)
+  octets-covered zero j h = refl
+  octets-covered (suc width) j h =
+      ap₂ (λ (x : ℕ) (xs : List ℕ). x ∷ xs) (covered-at j (omega arith)) (octets-covered width (suc j) (omega arith) ∙ ap (octetsAt width run) (add-suc start j))
 
-  pub part-between : (width j : ℕ) → start + j + width + 2 ≤ length run → take width (drop j (between start run)) ≡ octetsAt width run (start + j)
-  part-between width j h =
-      let room′ : j + width ≤ length (between start run) = omega (arith, between-length) in
-      part-at width (between start run) j room′ ∙ octets-between width j h
+  pub part-covered : (width j : ℕ) → start + j + width + 2 ≤ length run → take width (drop j (covered start run)) ≡ octetsAt width run (start + j)
+  part-covered width j h =
+      let room′ : j + width ≤ length (covered start run) = omega (arith, covered-length) in
+      part-at width (covered start run) j room′ ∙ octets-covered width j h

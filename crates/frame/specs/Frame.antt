@@ -22,12 +22,12 @@ pub data Verdict : Type 0 where
   sound : Frame → Verdict
 
 -- C, A and user data: what stands behind so many start octets and before S and 16
-abbrev pub between : ℕ → List ℕ → List ℕ
-between start run = take (length run - (start + 2)) (drop start run)
+abbrev pub covered : ℕ → List ℕ → List ℕ
+covered start run = take (length run - (start + 2)) (drop start run)
 
 -- S is the sum of C, A and user data modulo 256
 unfoldable pub sumRight : ℕ → List ℕ → Bool
-sumRight start run = eqb (checksum (between start run)) (getD run (length run - 2) 0)
+sumRight start run = eqb (checksum (covered start run)) (getD run (length run - 2) 0)
 
 module _ (k : Family) where
   -- fixed: 10 C A A S 16, exactly 6 octets
@@ -58,7 +58,7 @@ module _ (k : Family) where
   saidVariable body = variable (getD body 0 0) (lowFirst (take (k .width) (drop 1 body))) (drop (k .width) (drop 1 body))
 
   unfoldable pub said : List ℕ → Frame
-  said run = if fixedForm run then saidFixed (between 1 run) else saidVariable (between 4 run)
+  said run = if fixedForm run then saidFixed (covered 1 run) else saidVariable (covered 4 run)
 
   -- 1 empty, 2 over 261 octets, 3 not the form of a frame, 4 checksum wrong
   unfoldable pub judge : List ℕ → Verdict

@@ -1,0 +1,4 @@
+pub mod Chosen
+pub mod Laws
+pub mod Range
+mod Determined

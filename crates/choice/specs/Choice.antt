@@ -1,0 +1,43 @@
+-- What is chosen from an image. Document 01: "Chosen are records of that point and record address with first <= label <= last, in image
+-- order"; an event is compared by its minute. Assumes nothing.
+use Prim.Native.Nat.{ℕ, zero, suc}
+use mathlib.Core.Bool.{Bool, _&&_}
+use mathlib.Core.List.{List, [], _∷_}
+use lib.Dec.{eqb}
+use lib.Signed.{leZ}
+use lib.IntN.{ℤ}
+use Rattle.label.specs.Label.{instant}
+use Rattle.records.specs.Records.{recordsFrom}
+use Rattle.records.specs.Said.{keep, placesOf}
+use Rattle.parts.specs.Parts.{pointOf, recordOf, readingLabel, eventLabel, isKind, isPoint}
+use Rattle.parts.specs.Answers.{recordsOf}
+use Rattle.choice.specs.declared.Span.{Span}
+use Rattle.choice.specs.declared.Query.{Query}
+use Rattle.choice.specs.declared.Query.the-variants.{Kind, Point, Reading, Event}
+use Rattle.choice.specs.declared.Found.{Found}
+use Rattle.choice.specs.declared.Found.the-variants.{At, Nothing}
+
+-- a record of the span's point and record address, with an instant from first to last, both in
+unfoldable pub inSpan : Span → List ℕ → ℤ → Bool
+inSpan span r time =
+    eqb (pointOf r) (span .point .0) && (eqb (recordOf r) (span .record) && (leZ (span .first) time && leZ time (span .last)))
+
+unfoldable pub chosen : Query → List ℕ → Bool
+chosen (Kind kind) r = isKind kind r
+chosen (Point point) r = isPoint (point .0) r
+chosen (Reading span) r = isKind 4 r && inSpan span r (instant (readingLabel r))
+chosen (Event span) r = isKind 5 r && inSpan span r (instant (eventLabel r .a))
+
+-- the chosen records' octets, in image order
+unfoldable pub choice : Query → List ℕ → List (List ℕ)
+choice query image = keep (chosen query) (recordsOf image)
+
+-- the places of the chosen among the records from a place on; all of them from place 1 on
+unfoldable pub placesFrom : Query → List ℕ → ℕ → List ℕ
+placesFrom query image at = placesOf (chosen query) at (recordsFrom image at)
+
+-- the n-th place, counted from 0
+unfoldable pub nthPlace : ℕ → List ℕ → Found
+nthPlace n [] = Nothing
+nthPlace zero (p ∷ ps) = At p
+nthPlace (suc n) (p ∷ ps) = nthPlace n ps

@@ -1,0 +1,6 @@
+pub mod Keys
+pub mod Order
+pub mod Known
+pub mod Soundness
+pub mod Dates
+mod Determined

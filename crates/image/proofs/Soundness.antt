@@ -1,0 +1,162 @@
+-- What a sound image is, as facts instead of tests: every rule of document 01, and that any two records are in order.
+-- Condition by condition. Assumes nothing.
+use Prim.Native.Nat.{ℕ, _+_, _≤_, _<_}
+use mathlib.Core.Bool.{Bool, true, false, _&&_, and-true}
+use mathlib.Core.List.{List, [], _∷_, flatten}
+use mathlib.Core.Path.{_≡_, refl, ap}
+use native.Mathlib.Omega.{arith}
+use borrow.Author.Tests.{eqb-true, eqb-false, leb-true, eq-eqb, le-leb}
+use lib.Dec.{eqb}
+use lib.ListN.{length, getD}
+use Rattle.octets.specs.Conditions.{holds}
+use Rattle.octets.proofs.Choice.{refuted}
+use Rattle.octets.proofs.Conditions.{and-left, and-right, holds-at}
+use Rattle.label.specs.Label.{validA, validB}
+use Rattle.records.specs.Records.{kindOf, recordAt, kindAt}
+use Rattle.records.specs.Said.{every, linked, keep, howMany}
+use Rattle.records.proofs.Said.{every-at}
+use Rattle.parts.specs.Parts.{pointOf, recordOf, firstDate, secondDate, readingLabel, eventLabel, isKind}
+use Rattle.parts.specs.Answers.{recordsOf, pointsOf}
+use Rattle.image.specs.Image.{readingRecord, eventRecord, right, inOrder, knows, soundImage}
+use Rattle.image.specs.Keys.{orderly, knownIn}
+use Rattle.image.proofs.Order.{any-two}
+use Rattle.image.proofs.Known.{head-missing, all-points, dates-at-most-once, all-known-found, head-only}
+
+-- the rules, over the list of records
+pub record Rules (image : List ℕ) : Type 0 where
+  pub short : length image ≤ 65535
+  pub version : getD image 0 0 ≡ 1
+  pub reaches : 1 + length (flatten (recordsOf image)) ≡ length image
+  pub one-head : howMany (isKind 1) (recordsOf image) ≡ 1
+  pub some-point : 1 ≤ howMany (isKind 2) (recordsOf image)
+  pub few-points : howMany (isKind 2) (recordsOf image) ≤ 8
+  pub dates-once : howMany (isKind 3) (recordsOf image) ≤ 1
+  pub all-right : every right (recordsOf image) ≡ true
+  pub in-order : linked inOrder (recordsOf image) ≡ true
+  pub all-known : every (knows (recordsOf image)) (recordsOf image) ≡ true
+
+pub rules : (image : List ℕ) → soundImage image ≡ true → Rules image
+unfolding soundImage
+rules image e =
+    record {
+      short = leb-true _ _ (holds-at _ e 0);
+      version = eqb-true _ _ (holds-at _ e 1);
+      reaches = eqb-true _ _ (holds-at _ e 2);
+      one-head = eqb-true _ _ (holds-at _ e 3);
+      some-point = leb-true _ _ (holds-at _ e 4);
+      few-points = leb-true _ _ (holds-at _ e 5);
+      dates-once = leb-true _ _ (holds-at _ e 6);
+      all-right = holds-at _ e 7;
+      in-order = holds-at _ e 8;
+      all-known = holds-at _ e 9;
+    }
+
+pub rules-orderly : (image : List ℕ) → Rules image → orderly image ≡ true
+unfolding orderly
+rules-orderly image s = rw (s .all-right, s .in-order, eq-eqb _ _ (s .reaches))
+
+-- what an orderly image is
+pub record Orderly (image : List ℕ) : Type 0 where
+  pub each-right : every right (recordsOf image) ≡ true
+  pub linked-in-order : linked inOrder (recordsOf image) ≡ true
+  pub to-the-end : 1 + length (flatten (recordsOf image)) ≡ length image
+
+pub orderly-facts : (image : List ℕ) → orderly image ≡ true → Orderly image
+unfolding orderly
+orderly-facts image e =
+    let rs = recordsOf image in
+    let rest = and-right (every right rs) _ e in
+    record {
+      each-right = and-left (every right rs) _ e;
+      linked-in-order = and-left (linked inOrder rs) _ rest;
+      to-the-end = eqb-true _ _ (and-right (linked inOrder rs) _ rest);
+    }
+
+-- of an orderly image the first record and the points decide
+module _ (image : List ℕ) (o : orderly image ≡ true) where
+  order-of : linked inOrder (recordsOf image) ≡ true
+  order-of = orderly-facts image o .linked-in-order
+
+  pub no-head-unsound : (kindAt image 1 ≡ 1 → ⊥) → false ≡ soundImage image
+  no-head-unsound n = refuted _ (λ e. omega (arith, rules image e .one-head, head-missing image order-of n))
+
+  module _ (k : kindAt image 1 ≡ 1) where
+    pub points-counted : howMany (isKind 2) (recordsOf image) ≡ length (pointsOf image)
+    unfolding howMany
+    points-counted = ap length (all-points image order-of k)
+
+    pub known-decides : length image ≤ 65535 → getD image 0 0 ≡ 1 → 1 ≤ length (pointsOf image) → length (pointsOf image) ≤ 8
+        → every (knownIn (pointsOf image)) (recordsOf image) ≡ soundImage image
+    unfolding soundImage holds howMany
+    known-decides short version some few =
+        let f = orderly-facts image o in
+        simp (
+          le-leb (length image) 65535 short,
+          eq-eqb (getD image 0 0) 1 version,
+          eq-eqb (1 + length (flatten (recordsOf image))) (length image) (f .to-the-end),
+          head-only image order-of k,
+          all-points image order-of k,
+          le-leb 1 (length (pointsOf image)) some,
+          le-leb (length (pointsOf image)) 8 few,
+          le-leb (howMany (isKind 3) (recordsOf image)) 1 (dates-at-most-once (recordsOf image) order-of),
+          f .each-right,
+          f .linked-in-order,
+          and-true,
+        )
+        (all-known-found image order-of k)
+
+-- each record of its kind, by itself
+module _ (r : List ℕ) (e : right r ≡ true) where
+  pub right-point : kindOf r ≡ 2 → 1 ≤ pointOf r
+  unfolding right
+  right-point k = leb-true 1 (pointOf r) (rw k at e)
+
+  pub right-dates : kindOf r ≡ 3 → (validA (firstDate r) ≡ true) × (validA (secondDate r) ≡ true)
+  unfolding right
+  right-dates k =
+      let both : (validA (firstDate r) && validA (secondDate r)) ≡ true = rw k at e in
+      (and-left (validA (firstDate r)) (validA (secondDate r)) both, and-right (validA (firstDate r)) (validA (secondDate r)) both)
+
+  pub right-reading : kindOf r ≡ 4 → (readingRecord (recordOf r) ≡ true) × (validA (readingLabel r) ≡ true)
+  unfolding right
+  right-reading k =
+      let both : (readingRecord (recordOf r) && validA (readingLabel r)) ≡ true = rw k at e in
+      (and-left (readingRecord (recordOf r)) (validA (readingLabel r)) both, and-right (readingRecord (recordOf r)) (validA (readingLabel r)) both)
+
+  pub right-event : kindOf r ≡ 5 → (eventRecord (recordOf r) ≡ true) × (validB (eventLabel r) ≡ true)
+  unfolding right
+  right-event k =
+      let both : (eventRecord (recordOf r) && validB (eventLabel r)) ≡ true = rw k at e in
+      (and-left (eventRecord (recordOf r)) (validB (eventLabel r)) both, and-right (eventRecord (recordOf r)) (validB (eventLabel r)) both)
+
+-- what callers use of a sound image
+pub record Sound (image : List ℕ) : Type 0 where
+  pub rules-hold : Rules image
+  pub head-stands : kindAt image 1 ≡ 1
+  pub head-alone : keep (isKind 1) (recordsOf image) ≡ recordAt image 1 ∷ []
+  pub points-are : keep (isKind 2) (recordsOf image) ≡ pointsOf image
+  pub each-is-right : (n : ℕ) → n < length (recordsOf image) → right (getD (recordsOf image) n []) ≡ true
+  pub two-in-order : (i j : ℕ) → i < j → j < length (recordsOf image) → inOrder (getD (recordsOf image) i []) (getD (recordsOf image) j []) ≡ true
+  pub each-known : (n : ℕ) → n < length (recordsOf image) → knows (recordsOf image) (getD (recordsOf image) n []) ≡ true
+
+pub sound-facts : (image : List ℕ) → soundImage image ≡ true → Sound image
+sound-facts image e =
+    let s = rules image e in
+    let rs = recordsOf image in
+    let head = has-head image s in
+    record {
+      rules-hold = s;
+      head-stands = head;
+      head-alone = head-only image (s .in-order) head;
+      points-are = all-points image (s .in-order) head;
+      each-is-right = every-at right rs (s .all-right);
+      two-in-order = any-two rs (s .in-order);
+      each-known = every-at (knows rs) rs (s .all-known);
+    }
+  where
+    has-head : (image : List ℕ) → Rules image → kindAt image 1 ≡ 1
+    has-head image s = by-test (eqb (kindAt image 1) 1) refl
+      where
+        by-test : (t : Bool) → eqb (kindAt image 1) 1 ≡ t → kindAt image 1 ≡ 1
+        by-test true e = eqb-true (kindAt image 1) 1 e
+        by-test false e = absurd (omega (arith, s .one-head, head-missing image (s .in-order) (eqb-false (kindAt image 1) 1 e)))

@@ -1,0 +1,4 @@
+pub mod Table
+pub mod Head
+pub mod Mirror
+mod Determined

@@ -1,0 +1,35 @@
+-- Every public contract of this crate leaves one outcome.
+-- By its one equation. Assumes nothing.
+use Rattle.octets.proofs.Outcome.{OneResult, one-outcome}
+use Rattle.parts.proofs.key_at.Reads as key-at
+use Rattle.parts.proofs.head_of.Reads as head-of
+use Rattle.parts.proofs.points.Reads as points
+use Rattle.parts.proofs.point_of.Reads as point-of
+use Rattle.parts.proofs.dates_at.Reads as dates-at
+use Rattle.parts.proofs.dates_of.Reads as dates-of
+use Rattle.parts.proofs.value_at.Reads as value-at
+use Rattle.parts.proofs.event_at.Reads as event-at
+
+key-at-one : OneResult key-at.Post
+key-at-one κs a r r′ s s′ = one-outcome
+
+head-of-one : OneResult head-of.Post
+head-of-one κs a r r′ s s′ = one-outcome
+
+points-one : OneResult points.Post
+points-one κs a r r′ s s′ = one-outcome
+
+point-of-one : OneResult point-of.Post
+point-of-one κs a r r′ s s′ = one-outcome
+
+dates-at-one : OneResult dates-at.Post
+dates-at-one κs a r r′ s s′ = one-outcome
+
+dates-of-one : OneResult dates-of.Post
+dates-of-one κs a r r′ s s′ = one-outcome
+
+value-at-one : OneResult value-at.Post
+value-at-one κs a r r′ s s′ = one-outcome
+
+event-at-one : OneResult event-at.Post
+event-at-one κs a r r′ s s′ = one-outcome

@@ -1,0 +1,3 @@
+pub mod Parts
+pub mod Key
+pub mod Answers

@@ -1,0 +1,4 @@
+pub mod Records
+pub mod Said
+pub mod Places
+mod Determined

@@ -1,0 +1,142 @@
+/* The driving face (README, "The driving face"): shows what the printing
+   face cannot. */
+#include <inttypes.h>
+#include <stdlib.h>
+#include <string.h>
+
+#include "card.h"
+#include "face.h"
+
+enum {
+    DRIVE_IMAGE_MOST = 65600, /* more than an image may have, to be refused */
+    DRIVE_BUFFER = 300,
+    DRIVE_OCTETS_MOST = 65535
+};
+
+struct driving {
+    struct card card;
+    uint8_t image[DRIVE_IMAGE_MOST];
+    size_t image_length;
+    uint8_t clock[LABEL_B_OCTETS];
+    uint8_t buffer[DRIVE_BUFFER]; /* kept between gaps */
+    size_t buffer_lent;
+    uint8_t octets[DRIVE_OCTETS_MOST];
+};
+
+enum call_read { CALL_DONE, CALL_CUT, CALL_WRONG, CALL_NONE };
+
+static void driving_begin(struct driving *driving)
+{
+    card_power_on(&driving->card);
+    driving->image_length = 0;
+    memset(driving->clock, 0, sizeof driving->clock);
+    memset(driving->buffer, 0xAA, sizeof driving->buffer);
+    driving->buffer_lent = FRAME_OCTETS_MOST;
+}
+
+/* "`I`, 3-octet length, image octets (at most 65,600)". A cut call is the last
+   one, so it is no matter that part of the image has been written over. */
+static enum call_read call_image(FILE *in, struct driving *driving)
+{
+    size_t length;
+
+    if (!read_number(in, 3, &length))
+        return CALL_CUT;
+    if (length > sizeof driving->image)
+        return CALL_WRONG;
+    if (!read_octets(in, driving->image, length))
+        return CALL_CUT;
+    driving->image_length = length;
+    return CALL_DONE;
+}
+
+static enum call_read call_clock(FILE *in, struct driving *driving)
+{
+    return read_octets(in, driving->clock, sizeof driving->clock) ? CALL_DONE : CALL_CUT;
+}
+
+/* "`B`, 2-octet length up to 300" */
+static enum call_read call_buffer(FILE *in, struct driving *driving)
+{
+    size_t length;
+
+    if (!read_number(in, 2, &length))
+        return CALL_CUT;
+    if (length > sizeof driving->buffer)
+        return CALL_WRONG;
+    driving->buffer_lent = length;
+    return CALL_DONE;
+}
+
+/* "`O`, 2-octet length, octets: given to the card one by one" */
+static enum call_read call_octets(FILE *in, struct driving *driving)
+{
+    size_t length;
+
+    if (!read_number(in, 2, &length) || !read_octets(in, driving->octets, length))
+        return CALL_CUT;
+    for (size_t i = 0; i < length; i++)
+        card_octet(&driving->card, driving->octets[i]);
+    return CALL_DONE;
+}
+
+/* "number, length, order, the order's octets in hex or `-`, the count of
+   damaged runs, all 300 octets of the buffer in hex" */
+static void write_line(FILE *out, const struct gap_result *result,
+                       const struct driving *driving)
+{
+    fprintf(out, "%d %zu %s ", (int)result->number, result->length,
+            order_name(result->order));
+    write_hex(out, result->order_octets, result->order_length, false);
+    fprintf(out, " %" PRIu16 " ", driving->card.damaged);
+    write_hex(out, driving->buffer, sizeof driving->buffer, false);
+    putc('\n', out);
+}
+
+static enum call_read call_gap(FILE *out, struct driving *driving)
+{
+    struct lent lent = {driving->image, driving->image_length, driving->clock,
+                        driving->buffer, driving->buffer_lent};
+    struct gap_result result = card_gap(&driving->card, &lent);
+
+    write_line(out, &result, driving);
+    return CALL_DONE;
+}
+
+static enum call_read next_call(FILE *in, FILE *out, struct driving *driving)
+{
+    switch (getc(in)) {
+    case 'I':
+        return call_image(in, driving);
+    case 'C':
+        return call_clock(in, driving);
+    case 'B':
+        return call_buffer(in, driving);
+    case 'O':
+        return call_octets(in, driving);
+    case 'G':
+        return call_gap(out, driving);
+    case EOF:
+        return CALL_NONE;
+    default:
+        return CALL_WRONG;
+    }
+}
+
+int main(void)
+{
+    static struct driving driving; /* too large for the stack */
+    enum call_read read = CALL_DONE;
+    bool written = true;
+
+    driving_begin(&driving);
+    while (read == CALL_DONE && written) {
+        read = next_call(stdin, stdout, &driving);
+        if (read == CALL_CUT)
+            fputs("cut\n", stdout);
+        if (read == CALL_WRONG)
+            fputs("call\n", stdout);
+        written = fflush(stdout) == 0;
+    }
+    return written ? EXIT_SUCCESS : EXIT_FAILURE;
+}
