@@ -1,5 +1,5 @@
-// Whether an image is sound. The records are walked twice, each octet of a record read once by a walk; the points are looked up among
-// the first records.
+// Whether an image is sound. The records are walked twice, with constant work a record; the points are looked up among the first
+// records.
 ghost use mathlib.Core.Path.{_≡_};
 ghost use mathlib.Core.Bool.{true};
 ghost use Rattle.records.specs.Records.{wholeAt, recordAt};
