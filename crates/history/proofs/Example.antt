@@ -93,22 +93,27 @@ heard-rests : (t : Bool) (s : Ear) → Rest (heardAs t s .state)
 heard-rests true s = refl
 heard-rests false s = refl
 
-deaf : Deaf ear Fit NoFrame Alike Rest Mute
+-- the laws hold of it in every state
+abbrev Any : Ear → Type 0
+Any s = Unit {0}
+
+deaf : Deaf ear Fit NoFrame Any Alike Rest Mute
 deaf =
     record {
+      kept = record { symbols = λ s a k. k; gaps = λ s g f k. k; calls = λ s e k. k };
       alike-trans = λ s t u a b. record { run = a .run ∙ b .run; heard = a .heard ∙ b .heard };
       symbol-alike = λ s t b a. record { run = ap (λ (run : List Bool). b ∷ run) (a .run); heard = a .heard };
       gap-alike = λ s t g f a. rw (fit-gap s g f, fit-gap t g f, ap isFrame (a .run)) (same-gap (isFrame (t .run)) s t a);
       call-alike = λ s t e a. record { states = record { run = a .run; heard = a .heard }; answers = refl };
-      gap-rests = λ s g f. rw (fit-gap s g f) (heard-rests (isFrame (s .run)) s);
+      gap-rests = λ s g f k. rw (fit-gap s g f) (heard-rests (isFrame (s .run)) s);
       call-rests = λ s e r. r;
       noise-mute = λ s run g r x f. rw (noise-gap s run g r x f);
       noise-alike = λ s run g r x f. rw (noise-gap s run g r x f) (record { run = r; heard = sym (fed-heard s run) });
     }
 
 -- asked of every gap, the laws hold of no such machine: a gap with an unfit loan leaves the run
-every-gap : Deaf ear (λ (g : Bool). Unit {0}) NoFrame Alike Rest Mute → ⊥
-every-gap d = cons≢nil (d .gap-rests (record { run = true ∷ []; heard = 0; damaged = 0 }) false tt)
+every-gap : Deaf ear (λ (g : Bool). Unit {0}) NoFrame Any Alike Rest Mute → ⊥
+every-gap d = cons≢nil (d .gap-rests (record { run = true ∷ []; heard = 0; damaged = 0 }) false tt tt)
 
 -- one frame, and the same with two runs put in at the start and one after the gap
 start : Ear
@@ -126,7 +131,7 @@ put-in = N.noise (false ∷ []) true refl refl (N.noise (true ∷ true ∷ []) t
 
 unheard : Unnoticed ear Alike Mute put-in start start
 unfolding start
-unheard = unnoticed deaf put-in start (record { run = refl; heard = refl }) refl
+unheard = unnoticed deaf put-in start (record { run = refl; heard = refl }) tt refl
 
 -- what it answers is no fixed silence
 quiet-answers : answers ear start quiet ≡ number 1 ∷ nothing ∷ []

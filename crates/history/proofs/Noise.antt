@@ -1,7 +1,7 @@
 -- Noise goes unnoticed by a deaf machine, whatever number of runs is put in at whatever number of places.
--- By recursion on how the noise was put in, keeping the two states alike and the second at rest where noise may follow. Assumes nothing.
+-- By recursion on how the noise was put in: the states stay alike, and the second kept, and at rest where noise may follow. Assumes nothing.
 use mathlib.Core.Bool.{Bool, true, false}
-use mathlib.Core.List.{List, _∷_}
+use mathlib.Core.List.{List, [], _∷_}
 use mathlib.Core.Path.{_≡_, refl, sym, ap₂, subst}
 use Rattle.history.specs.History.{Event, Machine, answers, after, fed, AllFit}
 use Rattle.history.specs.Sides.{InStep, Related}
@@ -11,7 +11,7 @@ use Rattle.history.proofs.History.{closed-answers, closed-after}
 use Rattle.history.proofs.Sides.{in-step, in-pairs-same, Same, beside-itself}
 
 module _ {S A G E O : Type 0} {m : Machine S A G E O} {Fit : G → Type 0} {Noise : List A → Type 0}
-    {Alike : S → S → Type 0} {Rest : S → Type 0} {Mute : O → Type 0} (d : Deaf m Fit Noise Alike Rest Mute) where
+    {Kept : S → Type 0} {Alike : S → S → Type 0} {Rest : S → Type 0} {Mute : O → Type 0} (d : Deaf m Fit Noise Kept Alike Rest Mute) where
   -- where noise may be put in, the machine is at rest
   abbrev RestsIf : Bool → S → Type 0
   RestsIf true s = Rest s
@@ -21,33 +21,39 @@ module _ {S A G E O : Type 0} {m : Machine S A G E O} {Fit : G → Type 0} {Nois
   call-rests-if true s e r = d .call-rests s e r
   call-rests-if false s e r = tt
 
-  unnoticed-if : {fresh : Bool} {h h′ : List (Event A G E)} (n : Noised Fit Noise fresh h h′) (s t : S) → Alike s t → RestsIf fresh t
+  kept-fed : (s : S) (run : List A) → Kept s → Kept (fed m s run)
+  unfolding fed
+  kept-fed s [] k = k
+  kept-fed s (a ∷ run) k = kept-fed (m .symbol s a) run (d .kept .symbols s a k)
+
+  unnoticed-if : {fresh : Bool} {h h′ : List (Event A G E)} (n : Noised Fit Noise fresh h h′) (s t : S) → Alike s t → Kept t → RestsIf fresh t
       → Unnoticed m Alike Mute n s t
   unfolding answers after
-  unnoticed-if N.end s t a r = record { unanswered = tt; same = refl; alike = a }
-  unnoticed-if (N.symbol {a = b} n) s t a r =
-      let rest = unnoticed-if n (m .symbol s b) (m .symbol t b) (d .symbol-alike s t b a) tt in
+  unnoticed-if N.end s t a k r = record { unanswered = tt; same = refl; alike = a }
+  unnoticed-if (N.symbol {a = b} n) s t a k r =
+      let rest = unnoticed-if n (m .symbol s b) (m .symbol t b) (d .symbol-alike s t b a) (d .kept .symbols t b k) tt in
       record { unanswered = rest .unanswered; same = rest .same; alike = rest .alike }
-  unnoticed-if (N.gap {g = g} f n) s t a r =
+  unnoticed-if (N.gap {g = g} f n) s t a k r =
       let now = d .gap-alike s t g f a in
-      let rest = unnoticed-if n (m .gap s g .state) (m .gap t g .state) (now .states) (d .gap-rests t g f) in
+      let rest = unnoticed-if n (m .gap s g .state) (m .gap t g .state) (now .states) (d .kept .gaps t g f k) (d .gap-rests t g f k) in
       record { unanswered = rest .unanswered; same = ap₂ (λ (o : O) (os : List O). o ∷ os) (sym (now .answers)) (rest .same); alike = rest .alike }
-  unnoticed-if (N.call {fresh = fresh} {e = e} n) s t a r =
+  unnoticed-if (N.call {fresh = fresh} {e = e} n) s t a k r =
       let now = d .call-alike s t e a in
-      let rest = unnoticed-if n (m .call s e .state) (m .call t e .state) (now .states) (call-rests-if fresh t e r) in
+      let rest = unnoticed-if n (m .call s e .state) (m .call t e .state) (now .states) (d .kept .calls t e k) (call-rests-if fresh t e r) in
       record { unanswered = rest .unanswered; same = ap₂ (λ (o : O) (os : List O). o ∷ os) (sym (now .answers)) (rest .same); alike = rest .alike }
-  unnoticed-if (N.noise {h′ = h′} run g x f n) s t a r =
+  unnoticed-if (N.noise {h′ = h′} run g x f n) s t a k r =
       let u = m .gap (fed m t run) g .state in
-      let rest = unnoticed-if n s u (d .alike-trans s t u a (d .noise-alike t run g r x f)) (d .gap-rests (fed m t run) g f) in
+      let in-run = kept-fed t run k in
+      let rest = unnoticed-if n s u (d .alike-trans s t u a (d .noise-alike t run g r x f)) (d .kept .gaps (fed m t run) g f in-run) (d .gap-rests (fed m t run) g f in-run) in
       record {
         unanswered = rw (closed-answers m t run g h′) (d .noise-mute t run g r x f, rest .unanswered);
         same = rw (closed-answers m t run g h′) (rest .same);
         alike = rw (closed-after m t run g h′) (rest .alike);
       }
 
-  -- from a state at rest, which is like itself
-  pub unnoticed : {h h′ : List (Event A G E)} (n : Noised Fit Noise true h h′) (s : S) → Alike s s → Rest s → Unnoticed m Alike Mute n s s
-  unnoticed n s a r = unnoticed-if n s s a r
+  -- from a state at rest that is kept, which is like itself
+  pub unnoticed : {h h′ : List (Event A G E)} (n : Noised Fit Noise true h h′) (s : S) → Alike s s → Kept s → Rest s → Unnoticed m Alike Mute n s s
+  unnoticed n s a k r = unnoticed-if n s s a k r
 
   -- a deaf machine keeps step with itself: on one history, states that are alike give the same answers and end alike
   alike-in-step : InStep m m (λ (a a′ : A). a ≡ a′) (Same Fit) (λ (e e′ : E). e ≡ e′) Alike (λ (o o′ : O). o ≡ o′)

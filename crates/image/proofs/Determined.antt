@@ -2,6 +2,10 @@
 -- By its one equation. Assumes nothing.
 use Rattle.octets.proofs.Outcome.{OneResult, one-outcome}
 use Rattle.image.proofs.sound.Reads as sound
+use Rattle.image.proofs.is_event_record.Reads as is-event-record
 
 sound-one : OneResult sound.Post
 sound-one κs a r r′ s s′ = one-outcome
+
+is-event-record-one : OneResult is-event-record.Post
+is-event-record-one κs a r r′ s s′ = one-outcome

@@ -26,7 +26,7 @@ fn is_reading_record(address: u8) -> bool
 }
 
 // Record addresses of events: 52 to 55, 128, 129.
-fn is_event_record(address: u8) -> bool
+pub fn is_event_record(address: u8) -> bool
     ensures { λ r. ⌜ r ≡ eventRecord address ⌝ }
 {
     if address < 52 {

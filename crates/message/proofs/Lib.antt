@@ -1,4 +1,5 @@
 pub mod Table
 pub mod Head
 pub mod Mirror
+pub mod Kept
 mod Determined

@@ -1,3 +1,4 @@
 pub mod Head
 pub mod Table
 pub mod Mirror
+pub mod Kept

@@ -1,10 +1,14 @@
-// Messages: the header, the table of requests, mirrors.
+// Messages: octets that are kept, the header, the table of requests, mirrors.
 use address::PointAddress;
-ghost use Prim.Native.Nat.{_%_};
+ghost use Prim.Native.Nat.{_+_, _%_, _≤_};
+ghost use mathlib.Core.List.{[]};
 ghost use mathlib.Core.Path.{_≡_};
+ghost use lib.ListN.{length};
+ghost use Rattle.octets.specs.Over.{over};
 ghost use Rattle.message.specs.Head.{tOf, causeOctet, headerOf, headerOctets};
 ghost use Rattle.message.specs.Table.{table, rowIn};
 ghost use Rattle.message.specs.Mirror.{mirror, pnBit};
+ghost use Rattle.message.specs.Kept.{messageOf, added, mirrorOf};
 
 // What the first six octets of a message say.
 pub struct Header {
@@ -21,6 +25,12 @@ pub struct Row {
     pub count: u8,
     pub octets: u8,
     pub cause: u8,
+}
+
+// A request or a reply: the first so many of its octets.
+pub struct Message {
+    pub octets: [u8; 252],
+    pub length: u8,
 }
 
 pub enum RowFound {
@@ -139,8 +149,56 @@ impl Header {
     }
 }
 
-// The request with another cause and P/N; T is kept.
-pub fn mirrored(request: [u8; 252], pn: bool, cause: u8) -> [u8; 252]
+impl Message {
+    pub fn new() -> Message
+        ensures { λ r. ⌜ r ≡ messageOf [] ⌝ }
+    {
+        Message {
+            octets: [0; 252],
+            length: 0,
+        }
+    }
+
+    // The message with more octets behind; as it was, where they do not fit.
+    pub fn with(self, top: &[u8]) -> Message
+        ensures { λ r. ⌜ r ≡ added self (now (top .entry)) ⌝ }
+    {
+        let length = self.length as usize;
+        if 252 < length {
+            return self;
+        }
+        if 252 - length < top.len() {
+            return self;
+        }
+        let octets = self.octets;
+        Message {
+            octets: written(octets, length, top),
+            length: (length + top.len()) as u8,
+        }
+    }
+
+    // The request with another cause and P/N; T is kept.
+    pub fn mirrored(self, pn: bool, cause: u8) -> Message
+        ensures { λ r. ⌜ r ≡ mirrorOf self (pnBit pn) (cause % 64) ⌝ }
+    {
+        let octets = self.octets;
+        Message {
+            octets: mirrored(octets, pn, cause),
+            length: self.length,
+        }
+    }
+}
+
+fn written(octets: [u8; 252], at: usize, top: &[u8]) -> [u8; 252]
+    requires { ⌜ at + length (now top) ≤ 252 ⌝ }
+    ensures { λ r. ⌜ r ≡ over octets at (now (top .entry)) ⌝ }
+{
+    let mut all = octets;
+    octets::put(&mut all, at, top);
+    all
+}
+
+fn mirrored(request: [u8; 252], pn: bool, cause: u8) -> [u8; 252]
     ensures { λ r. ⌜ r ≡ mirror request (pnBit pn) (cause % 64) ⌝ }
 {
     let mut m = request;

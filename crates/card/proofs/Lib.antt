@@ -1,0 +1,2 @@
+pub mod Gap
+mod Determined

@@ -1,0 +1,4 @@
+pub mod Giving
+pub mod Groups
+pub mod Collected
+mod Determined

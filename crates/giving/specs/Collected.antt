@@ -1,0 +1,36 @@
+-- What the centre collects, message after message, when every gap is lent the same image; and records in groups.
+-- Assumes nothing.
+use Prim.Native.Nat.{ℕ, zero, suc}
+use mathlib.Core.List.{List, [], _∷_}
+use lib.ListN.{length, take, drop}
+use Rattle.octets.specs.Choice.{if_then_else_}
+use Rattle.choice.specs.declared.Span.{Span}
+use Rattle.message.specs.declared.Message.{Message}
+use Rattle.message.specs.Kept.{messageOf}
+use Rattle.replies.specs.Replies.{readingReply, eventsReply}
+use Rattle.carrying.specs.declared.Pending.{Pending}
+use Rattle.giving.specs.Giving.{nextOf}
+
+-- the messages that so many collections give; the list ends where nothing waits
+unfoldable pub collected : ℕ → Pending → List ℕ → List Message
+collected zero pending image = []
+collected (suc turns) pending image =
+    let next = nextOf pending image in
+    if next .found then next .message ∷ collected turns (next .pending) image else []
+
+-- so many groups at most: the first `size` records, then the next, until none is left
+unfoldable pub groupsOf : ℕ → ℕ → List (List ℕ) → List (List (List ℕ))
+groupsOf zero size rs = []
+groupsOf (suc most) size [] = []
+groupsOf (suc most) size (r ∷ rs) = take size (r ∷ rs) ∷ groupsOf most size (drop size (r ∷ rs))
+
+-- all of them: there are no more groups than records
+unfoldable pub inGroups : ℕ → List (List ℕ) → List (List (List ℕ))
+inGroups size rs = groupsOf (length rs) size rs
+
+-- type 1 of some events; type 8 or 11 of a reading
+unfoldable pub eventsMessage : Span → List (List ℕ) → Message
+eventsMessage span rs = messageOf (eventsReply (span .point) (span .«record») rs)
+
+unfoldable pub readingMessage : ℕ → Span → List ℕ → Message
+readingMessage kind span r = messageOf (readingReply kind (span .point) (span .«record») r)

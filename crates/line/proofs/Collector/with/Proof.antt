@@ -1,0 +1,36 @@
+-- `Collector::with` answers the collector with an octet more.
+-- By whether there is room. Assumes nothing.
+use borrow.Author.Tests.{le-ltb}
+use Rattle.octets.proofs.Choice.{tests}
+use Rattle.line.specs.Collecting.{emptied, overfull, collected}
+use borrow.Author.Needs.{needs}
+use Rattle.line.proofs.Collector.with.Statement.{statement}
+use Rattle.line.proofs.Collector.with.Tie as tie
+
+cast-next : tie.Need-cast-next
+cast-next c = search needs
+
+element-write-next : tie.Need-element-write-next
+element-write-next c = search needs
+
+add-next : tie.Need-add-next
+add-next c = search needs
+
+returns : tie.Need-returns
+unfolding collected
+returns c = search tests
+
+new-requires : tie.Need-new-requires
+new-requires c κs = search needs
+
+add-overfull : tie.Need-add-overfull
+add-overfull c = search needs
+
+returns-2 : tie.Need-returns-2
+unfolding emptied overfull collected
+returns-2 c = rw (c .new .ensures, le-ltb (c .before .before .args .self .length) 261 (search needs))
+
+pub with-spec : {M : Type 1} → statement M
+with-spec =
+    tie.close
+    (tie.spec cast-next element-write-next add-next returns new-requires add-overfull returns-2)

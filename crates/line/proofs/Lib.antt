@@ -1,0 +1,5 @@
+pub mod Collecting
+pub mod Hearing
+pub mod Examining
+pub mod Damage
+mod Determined

@@ -1,0 +1,3 @@
+pub mod Collecting
+pub mod Examining
+pub mod Damage

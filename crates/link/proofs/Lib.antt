@@ -1,0 +1,2 @@
+pub mod Answering
+mod Determined

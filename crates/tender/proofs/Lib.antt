@@ -1,0 +1,14 @@
+pub mod Card
+pub mod Condition1
+pub mod Lengths
+pub mod Writable
+pub mod Condition2
+pub mod Rules
+pub mod Gaps
+pub mod Condition3
+pub mod Repeats
+pub mod CountBit
+pub mod Smallest
+pub mod Noisy
+pub mod Cases
+pub mod Wrong

@@ -1,0 +1,52 @@
+-- Condition 2. "The card reads and answers as SD1 and document 01 say. Every reply is a sound frame and, read by the same frame rules, gives
+-- back the message that the definition says was meant." Assumes nothing.
+use Prim.Native.Nat.{ℕ, _≤_, _<_}
+use mathlib.Core.List.{List}
+use mathlib.Core.Path.{_≡_}
+use lib.ListN.{length, getD}
+use Rattle.history.specs.History.{answers, after, AllFit}
+use Rattle.history.specs.Invariant.{AtGaps}
+use Rattle.frame.specs.Control.{offered}
+use Rattle.frame.specs.Family.{sapr}
+use Rattle.frame.specs.Frame.{sound, judge}
+use Rattle.frame.specs.Writing.{replyFrame}
+use Rattle.line.specs.Examining.{examined}
+use Rattle.link.specs.declared.Meant.{Meant}
+use Rattle.link.specs.Answering.{answered}
+use Rattle.card.specs.declared.Card.{Card}
+use Rattle.card.specs.State.{cardAtPowerOn}
+use Rattle.tender.specs.Card.{Loan, replyIn, AnyCard, History, ours}
+
+-- at every history from power-on, with any images, clocks and buffers lent gap by gap, outcomes and states are the definition's
+pub record Condition2 (m : AnyCard) : Type 0 where
+  pub as-defined : (h : History) → answers m cardAtPowerOn h ≡ answers ours cardAtPowerOn h
+  pub left-as-defined : (h : History) → after m cardAtPowerOn h ≡ after ours cardAtPowerOn h
+
+-- the reply that the definition says is meant at a gap: with the last FCB the remembered one, else a new one, which carries the link address
+-- of the image lent
+abbrev pub meantAt : Card → Loan → Meant
+meantAt card loan = answered (card .link) (examined (card .collector) (loan .image) .frame) (loan .image) (loan .clock) .reply
+
+-- every reply is a sound frame of at most 261 octets, and judged by the same rules gives back what was meant
+pub record SoundReply (m : AnyCard) (card : Card) (loan : Loan) : Type 0 where
+  pub at-most-261 : m .gap card loan .answer .count ≤ 261
+  pub gives-back : judge sapr (replyIn (m .gap card loan .answer)) ≡ sound (replyFrame (meantAt card loan .reply) (meantAt card loan .link))
+
+-- what is lent: an image of octets, a clock of seven
+pub record Lent (loan : Loan) : Type 0 where
+  pub octets : (i : ℕ) → getD (loan .image) i 0 < 256
+  pub seven : length (loan .clock) ≡ 7
+
+abbrev pub SoundReplies : AnyCard → Type 0
+SoundReplies m =
+    (h : History) → AllFit Lent h → AtGaps m (λ (card : Card) (loan : Loan). m .gap card loan .answer .number ≡ 0 → SoundReply m card loan) cardAtPowerOn h
+
+-- the count bit: an answered frame of function 3 or 11, neither reset nor status, leaves its FCB the last
+abbrev pub askedAt : Card → Loan → List ℕ
+askedAt card loan =
+    let frame = examined (card .collector) (loan .image) .frame in
+    offered (frame .form) (frame .control) .values
+
+pub record CountBit (m : AnyCard) : Type 0 where
+  pub becomes-last : (card : Card) (loan : Loan) → m .gap card loan .answer .number ≡ 0 → (getD (askedAt card loan) 0 0 ≡ 0 → ⊥) → (getD (askedAt card loan) 0 0 ≡ 9 → ⊥)
+      → m .gap card loan .state .link .fcb ≡ getD (askedAt card loan) 1 0

@@ -1,0 +1,1 @@
+// The buyer's conditions as theorems: no code.
