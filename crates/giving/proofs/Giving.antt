@@ -1,13 +1,12 @@
 -- No more is given than the image has room for, so the count of what is given fits its width.
 -- There are at most as many records as octets. Assumes nothing.
-use Prim.Native.Nat.{ℕ, zero, suc, _+_, _-_, _^_, _≤_, _<_}
+use Prim.Native.Nat.{ℕ, zero, suc, _+_, _^_, _≤_, _<_}
 use mathlib.Core.Bool.{Bool, true, false}
 use mathlib.Core.List.{List, [], _∷_}
 use mathlib.Core.Path.{_≡_}
 use native.Mathlib.Omega.{arith}
 use lib.Dec.{eqb}
 use lib.ListN.{length, take, drop, length-take, length-drop}
-use Rattle.octets.specs.Choice.{if_then_else_}
 use Rattle.octets.proofs.Choice.{either}
 use Rattle.records.specs.Records.{isWhole, sizeOf, walk, records, recordsFrom}
 use Rattle.records.specs.Said.{keep}

@@ -18,7 +18,6 @@ use Rattle.parts.specs.declared.HeadFound.the-variants as head
 use Rattle.parts.specs.Answers.{headFound}
 use Rattle.request.specs.declared.Rule.{Rule}
 use Rattle.request.specs.Rules.{pnBy}
-use Rattle.carrying.specs.declared.Order.{Order}
 use Rattle.carrying.specs.declared.Order.the-variants as order
 use Rattle.carrying.specs.declared.Carried.{Carried}
 use Rattle.carrying.specs.Carrying.{accepted, isWaiting, carriedOut}

@@ -1,14 +1,13 @@
 -- Octets that are kept: adding part after part gives the message of all parts, and a mirror's octets are the mirror of the octets.
 -- By the laws of `over`. Assumes nothing.
 use Prim.Native.Nat.{ℕ, _+_, _≤_, _<_}
-use mathlib.Core.List.{List, [], _∷_, _++_}
-use mathlib.Core.Path.{_≡_, refl, sym, ap, _∙_}
+use mathlib.Core.List.{List, _++_}
+use mathlib.Core.Path.{_≡_, refl}
 use native.Mathlib.Omega.{arith}
 use borrow.Author.Tests.{le-leb, lt-leb}
-use lib.Dec.{leb}
-use lib.ListN.{length, take, drop, set, replicate, length-append, length-replicate}
+use lib.ListN.{length, drop, replicate, length-append, length-replicate}
 use lib.Seq.{take-at, take-set-lt, getD-take}
-use Rattle.octets.specs.Over.{over, fitsAt, Put}
+use Rattle.octets.specs.Over.{over}
 use Rattle.octets.proofs.Over.{over-after, over-first}
 use Rattle.message.specs.declared.Message.{Message}
 use Rattle.message.specs.Mirror.{mirror}

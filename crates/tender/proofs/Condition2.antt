@@ -26,7 +26,7 @@ use Rattle.link.specs.Answering.{answered}
 use Rattle.card.specs.declared.Card.{Card}
 use Rattle.card.specs.State.{cardAtPowerOn, withOctet, runGone, linkedBy}
 use Rattle.card.specs.Gap.{Outcome, refusal, octetsMeant, afterAnswer, afterExamining, gapped}
-use Rattle.tender.specs.Card.{Loan, History, outcomeAt, ours}
+use Rattle.tender.specs.Card.{Loan, outcomeAt, ours}
 use Rattle.tender.specs.Condition2.{Condition2, meantAt, SoundReply, Lent, SoundReplies}
 use Rattle.tender.proofs.Writable.{CanWrite, Ready, AnswersReady, heard-short, power-on-ready, answered-ready}
 

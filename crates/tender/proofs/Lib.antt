@@ -9,6 +9,8 @@ pub mod Condition3
 pub mod Repeats
 pub mod CountBit
 pub mod Smallest
+pub mod Examples
+pub mod Computed
 pub mod Noisy
 pub mod Cases
 pub mod Wrong

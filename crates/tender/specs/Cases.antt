@@ -1,13 +1,10 @@
 -- The cases of document 01 that are marked P, as one list: octets and what is said of them. A conversation starts at power-on with
 -- document 01's smallest image. Assumes nothing.
 use Prim.Native.Nat.{ℕ}
-use mathlib.Core.Bool.{Bool, true, false}
 use mathlib.Core.List.{List, [], _∷_, map}
 use lib.ListN.{replicate}
 use Rattle.octets.specs.Choice.{if_then_else_}
 use Rattle.history.specs.History.{answers, closedRun}
-use Rattle.label.specs.declared.LabelA.{LabelA}
-use Rattle.label.specs.declared.LabelB.{LabelB}
 use Rattle.label.specs.Label.{validA, partsA, second, millisecond}
 use Rattle.parts.specs.Parts.{labelAAt, labelBAt}
 use Rattle.card.specs.State.{cardAtPowerOn}

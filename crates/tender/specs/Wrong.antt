@@ -1,16 +1,12 @@
 -- Wrong cards: those that document 01 names, and others that a tired engineer could write.
 -- Assumes nothing.
 use Prim.Native.Nat.{ℕ, _-_}
-use mathlib.Core.Bool.{Bool, true, false}
 use mathlib.Core.List.{List, [], _∷_, _++_}
 use lib.Dec.{eqb}
 use lib.ListN.{length, getD, take, drop, replicate, set}
 use Rattle.octets.specs.Choice.{if_then_else_}
 use Rattle.history.specs.History.{Outcome}
-use Rattle.carrying.specs.declared.Order.{Order}
 use Rattle.carrying.specs.declared.Order.the-variants.{Nothing, Clock}
-use Rattle.request.specs.declared.Session.{Session}
-use Rattle.link.specs.declared.Link.{Link}
 use Rattle.link.specs.State.{inSession, remembering}
 use Rattle.card.specs.declared.Card.{Card}
 use Rattle.card.specs.State.{withOctet, linkedBy}

@@ -1,6 +1,5 @@
 -- `after_answer` answers the gap once the frame is answered.
 -- By the answer's number. Assumes nothing.
-use mathlib.Core.Path.{sym, _∙_}
 use Rattle.card.proofs.Gap.{gapped-same, answer-refused, answer-replied, refused-gap, replied-gap}
 use borrow.Author.Needs.{needs}
 use Rattle.card.proofs.after_answer.Statement.{statement}

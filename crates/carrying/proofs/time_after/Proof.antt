@@ -1,8 +1,6 @@
 -- `time_after` answers an order's octets, zeros behind.
 -- At most ten are put over ten zeros. Assumes nothing.
 use Rattle.carrying.proofs.Carrying.{time-is}
-use Rattle.octets.proofs.Over.{put-fits}
-use Rattle.carrying.specs.Carrying.{timeAfter}
 use borrow.Author.Needs.{needs}
 use Rattle.carrying.proofs.time_after.Statement.{statement}
 use Rattle.carrying.proofs.time_after.Tie as tie

@@ -1,6 +1,5 @@
 -- `data_from` answers the next events or the next reading.
 -- By the request's type. Assumes nothing.
-use mathlib.Core.Path.{sym, _∙_}
 use borrow.Author.Tests.{eq-eqb, ne-eqb}
 use Rattle.message.specs.Kept.{octetsOf}
 use Rattle.giving.specs.Giving.{dataFrom}

@@ -1,6 +1,5 @@
 -- `user_data` answers user data afresh.
 -- Replies wait, there are too few octets, or the message is carried out. Assumes nothing.
-use mathlib.Core.Bool.{or-true}
 use borrow.Author.Tests.{lt-ltb, le-ltb}
 use Rattle.octets.proofs.Choice.{told}
 use Rattle.link.specs.Answering.{userData}

@@ -1,6 +1,5 @@
 -- `Card::gap` answers a gap.
 -- The buffer, the image, then the run. Assumes nothing.
-use mathlib.Core.Path.{sym, _∙_}
 use Rattle.octets.proofs.Choice.{told}
 use Rattle.card.proofs.Gap.{gapped-same, gap-short, gap-unsound, gap-examined, refused-gap}
 use borrow.Author.Needs.{needs}

@@ -1,0 +1,110 @@
+-- Runs, loans, histories and cards that the wrong cards and the noisy history are tried on.
+-- Over document 01's smallest image. Assumes nothing.
+use Prim.Native.Nat.{ℕ}
+use mathlib.Core.List.{List, [], _∷_}
+use lib.ListN.{set, replicate}
+use Rattle.history.specs.History.{answers, after, fed, closedRun}
+use Rattle.carrying.specs.declared.Order.{Order}
+use Rattle.carrying.specs.declared.Order.the-variants as order
+use Rattle.request.specs.declared.Session.{Session}
+use Rattle.request.specs.declared.Session.the-variants.{Closed, Open}
+use Rattle.link.specs.State.{powerOn}
+use Rattle.card.specs.declared.Card.{Card}
+use Rattle.card.specs.State.{cardAtPowerOn}
+use Rattle.tender.specs.Card.{Loan, Seen, AnyCard, History, ours}
+use Rattle.tender.specs.Cases.{smallest, lent, closedRuns, reset}
+use Rattle.tender.specs.Wrong.{repeater}
+
+-- noise: over 261 octets, not the form of a frame, a wrong checksum, a reset with one octet changed
+abbrev pub long : List ℕ
+long = replicate 262 0x10
+
+abbrev pub malformed : List ℕ
+malformed = 0x10 ∷ 0x40 ∷ 0x01 ∷ []
+
+abbrev pub spoiled : List ℕ
+spoiled = 0x10 ∷ 0x40 ∷ 0x01 ∷ 0x00 ∷ 0x42 ∷ 0x16 ∷ []
+
+abbrev pub changed : List ℕ
+changed = set reset 1 0x41
+
+-- a reset, and the same with noise before and after it
+abbrev pub quiet : History
+quiet = closedRun reset lent []
+
+abbrev pub noisy : History
+noisy = closedRun long lent (closedRun malformed lent (closedRun reset lent (closedRun spoiled lent (closedRun changed lent []))))
+
+-- what it answers is no fixed silence: the ACK, number 0
+abbrev pub ack : Seen
+ack =
+    record {
+      number = 0;
+      count = 6;
+      order = order.Nothing;
+      time = replicate 10 0;
+      buffer = 0x10 ∷ 0x00 ∷ 0x01 ∷ 0x00 ∷ 0x01 ∷ 0x16 ∷ replicate 255 0;
+    }
+
+-- and what noise gets: a number
+abbrev pub unanswered : ℕ → Seen
+unanswered number = record { number = number; count = 0; order = order.Nothing; time = replicate 10 0; buffer = replicate 261 0 }
+
+-- a collector that no run has left: it holds none, but not zeros
+abbrev pub odd : Card
+odd = record { collector = record { octets = 1 ∷ replicate 260 0; length = 0 }; link = powerOn; damaged = 0 }
+
+abbrev pub ready : Card
+ready = after ours cardAtPowerOn quiet
+
+-- 09, nothing to give: 10 09 01 00 0A 16
+abbrev pub nothingToGive : List ℕ
+nothingToGive = 0x10 ∷ 0x09 ∷ 0x01 ∷ 0x00 ∷ 0x0A ∷ 0x16 ∷ []
+
+-- what is compared: the first gap's number and order, the last gap's reply length, the session and the last FCB at the end
+abbrev pub firstNumber : List Seen → ℕ
+firstNumber [] = 99
+firstNumber (seen ∷ rest) = seen .number
+
+abbrev pub orderNumber : Order → ℕ
+orderNumber order.Nothing = 0
+orderNumber order.Clock = 1
+orderNumber order.Dates = 2
+
+abbrev pub firstOrder : List Seen → ℕ
+firstOrder [] = 99
+firstOrder (seen ∷ rest) = orderNumber (seen .order)
+
+abbrev pub lastCount : List Seen → ℕ
+lastCount [] = 99
+lastCount (seen ∷ []) = seen .count
+lastCount (seen ∷ next ∷ rest) = lastCount (next ∷ rest)
+
+abbrev pub sessionNumber : Session → ℕ
+sessionNumber Closed = 0
+sessionNumber (Open point) = 1
+
+abbrev pub answersTo : AnyCard → List (List ℕ) → List Seen
+answersTo m runs = answers m cardAtPowerOn (closedRuns runs)
+
+-- behind a concentrator: link address 2, point 1
+abbrev pub behind : Loan
+behind = record { image = set smallest 5 2; clock = lent .clock; buffer = lent .buffer }
+
+abbrev pub resetBehind : History
+resetBehind = closedRun (0x10 ∷ 0x40 ∷ 0x02 ∷ 0x00 ∷ 0x42 ∷ 0x16 ∷ []) behind []
+
+-- a card that has it in its collector
+abbrev pub changedCard : Card
+changedCard = fed ours cardAtPowerOn changed
+
+-- a buffer of ones
+abbrev pub ones : Loan
+ones = record { image = smallest; clock = lent .clock; buffer = replicate 261 1 }
+
+-- with a run of one octet put in; and the card that only repeats, after the reset
+abbrev pub oneOctetIn : History
+oneOctetIn = closedRuns (reset ∷ (0 ∷ []) ∷ [])
+
+abbrev pub afterFirst : Card
+afterFirst = after repeater cardAtPowerOn quiet
