@@ -40,7 +40,7 @@ use Rattle.tender.specs.Card.{replyIn, ours}
 use Rattle.tender.specs.Condition2.{askedAt}
 use Rattle.tender.specs.Cases.{lent, closedRuns, reset, collect, asking, password, cases, saidOf, writtenOf}
 use Rattle.tender.specs.Wrong.{refuser, acknowledger, idler, repeater, inventor, clinger, stumbler, cleaner, setter, mistaker}
-use Rattle.tender.proofs.Examples.{firstNumber, firstOrder, lastCount, sessionNumber, answersTo, resetBehind, changedCard, ones, afterFirst, malformed, changed, quiet, noisy, ack, unanswered, odd, ready, nothingToGive}
+use Rattle.tender.proofs.Examples.{firstNumber, firstOrder, lastCount, sessionNumber, answersTo, openedBehind, changedCard, ones, afterFirst, malformed, changed, quiet, noisy, ack, unanswered, odd, ready, nothingToGive}
 
 pub record Computed : Type 0 where
   -- document 01's cases
@@ -55,8 +55,8 @@ pub record Computed : Type 0 where
   pub password-repeated : lastCount (answersTo repeater (reset ∷ password ∷ collect ∷ [])) ≡ 6
   pub no-order : firstOrder (answersTo ours (reset ∷ [])) ≡ 0
   pub some-order : firstOrder (answersTo setter (reset ∷ [])) ≡ 1
-  pub heard-behind : firstNumber (answers ours cardAtPowerOn resetBehind) ≡ 0
-  pub unheard-behind : firstNumber (answers mistaker cardAtPowerOn resetBehind) ≡ 5
+  pub opened-behind : sessionNumber (after ours cardAtPowerOn openedBehind .link .session) ≡ 1
+  pub unopened-behind : sessionNumber (after mistaker cardAtPowerOn openedBehind .link .session) ≡ 0
   pub closed-by-reset : sessionNumber (after ours cardAtPowerOn (closedRuns (reset ∷ password ∷ reset ∷ [])) .link .session) ≡ 0
   pub open-after-reset : sessionNumber (after clinger cardAtPowerOn (closedRuns (reset ∷ password ∷ reset ∷ [])) .link .session) ≡ 1
   pub stumbles : stumbler .gap changedCard lent .answer .number ≡ 4
@@ -85,4 +85,4 @@ pub record Computed : Type 0 where
 
 pub computed : Computed
 unfolding flatten holds lowFirst highFirst lowOctets highOctets over fitsAt octetSum checksum answers after fed leap leapDay monthLength daysOfMonths daysToYear dayNumber dateTimeA validA instant beforeA millisecond second validB inMinute beforeB partsA partsB real minutes partsOf earlier offered sumRight fixedForm variableForm startOf saidFixed saidVariable said judge bodyOf startWith written replyFrame replyOctets headerOf headerOctets octetsOf messageOf added mirrorOf mirror table rowIn lengthOf isWhole walk records wholeAt recordAt recordsFrom kindAt placeAfter every linked keep howMany placesOf recordsOf headFound leading pointsFrom pointsOf pointIn pointFound datesAt datesPlace datesFound valueFound eventFound keyOf keyAt numberAt labelAAt labelBAt linkOf dateOf makerOf productOf pointOf passwordOf firstDate secondDate recordOf readingLabel valueOf qualityOf spaOf spqOf eventLabel readingRecord eventRecord right byPoint readingBefore eventBefore inOrder knows soundImage emptied overfull isOverfull collected runOf collectedAll isDamaged damagedAfter verdictOf examinedFrame examined firstObject lastObject asksReadings labelsFrom firstLabel lastLabel spanOf timeLabel passwordIn addressed objectsRight labelsValid firstAfterLast noneIn byType decide accepted sessionAfter orderAfter timeAfter waitingAfter clockAfter pendingAfter carriedBy carriedOut nothingPending reply lastly nothingFound readingType dataPending mirrorWith clockFrom dataFrom afterData beginWith nextOf refusedBy replied deedOf carried noted userData linkGiven collection counted resetBy statusBy answered powerOn afterReset remembering inSession awaiting refusal octetsMeant afterAnswer afterExamining gapped goneBy cardAtPowerOn withOctet runGone linkedBy
-computed = record { as-written = refl; refuser-says = refl; acknowledger-says = refl; idler-says = refl; reset-answered = refl; spoiled-refused = refl; password-mirrored = refl; password-repeated = refl; no-order = refl; some-order = refl; heard-behind = refl; unheard-behind = refl; closed-by-reset = refl; open-after-reset = refl; stumbles = refl; stumbled = refl; was-even = refl; cleans = refl; cleaned = refl; counted-wrong = refl; counted-right = refl; form-wrong = refl; bit-asked = refl; bit-repeated = refl; bit-ignored = refl; noise-answered = refl; quiet-answers = refl; noisy-answers = refl; quiet-count = refl; noisy-count = refl; ready-empty = refl; ready-answers = refl; ready-reply = refl; odd-kept = refl; odd-first = refl; odd-noise = refl }
+computed = record { as-written = refl; refuser-says = refl; acknowledger-says = refl; idler-says = refl; reset-answered = refl; spoiled-refused = refl; password-mirrored = refl; password-repeated = refl; no-order = refl; some-order = refl; opened-behind = refl; unopened-behind = refl; closed-by-reset = refl; open-after-reset = refl; stumbles = refl; stumbled = refl; was-even = refl; cleans = refl; cleaned = refl; counted-wrong = refl; counted-right = refl; form-wrong = refl; bit-asked = refl; bit-repeated = refl; bit-ignored = refl; noise-answered = refl; quiet-answers = refl; noisy-answers = refl; quiet-count = refl; noisy-count = refl; ready-empty = refl; ready-answers = refl; ready-reply = refl; odd-kept = refl; odd-first = refl; odd-noise = refl }

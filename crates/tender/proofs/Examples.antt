@@ -87,12 +87,16 @@ sessionNumber (Open point) = 1
 abbrev pub answersTo : AnyCard → List (List ℕ) → List Seen
 answersTo m runs = answers m cardAtPowerOn (closedRuns runs)
 
--- behind a concentrator: link address 2, point 1
+-- behind a concentrator: link address 2, point 1; a reset and the point's password
 abbrev pub behind : Loan
 behind = record { image = set smallest 5 2; clock = lent .clock; buffer = lent .buffer }
 
-abbrev pub resetBehind : History
-resetBehind = closedRun (0x10 ∷ 0x40 ∷ 0x02 ∷ 0x00 ∷ 0x42 ∷ 0x16 ∷ []) behind []
+abbrev pub openedBehind : History
+openedBehind =
+    closedRun (0x10 ∷ 0x40 ∷ 0x02 ∷ 0x00 ∷ 0x42 ∷ 0x16 ∷ []) behind
+    (closedRun
+    (0x68 ∷ 0x0D ∷ 0x0D ∷ 0x68 ∷ 0x73 ∷ 0x02 ∷ 0x00 ∷ 0xB7 ∷ 0x01 ∷ 0x06 ∷ 0x01 ∷ 0x00 ∷ 0x00 ∷ 0x78 ∷ 0x56 ∷ 0x34 ∷ 0x12 ∷ 0x48 ∷ 0x16 ∷ []) behind
+    [])
 
 -- a card that has it in its collector
 abbrev pub changedCard : Card

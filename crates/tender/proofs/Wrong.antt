@@ -17,7 +17,7 @@ use Rattle.tender.specs.Cases.{smallest, lent, closedRuns, reset, collec
 use Rattle.history.specs.History.{answers, after, fed}
 use Rattle.card.specs.State.{cardAtPowerOn}
 use Rattle.tender.proofs.Smallest.{fit}
-use Rattle.tender.proofs.Examples.{firstNumber, firstOrder, lastCount, sessionNumber, resetBehind, changedCard, ones, quiet, oneOctetIn, changed, afterFirst}
+use Rattle.tender.proofs.Examples.{firstNumber, firstOrder, lastCount, sessionNumber, openedBehind, changedCard, ones, quiet, oneOctetIn, changed, afterFirst}
 use Rattle.tender.proofs.Computed.{computed}
 use Rattle.tender.proofs.Noisy.{refused-noise}
 use Rattle.tender.specs.Wrong.{refuser, acknowledger, idler, repeater, inventor, clinger, stumbler, cleaner, setter, mistaker}
@@ -46,8 +46,9 @@ only-repeats c =
 pub sets-the-clock : Condition2 setter → ⊥
 sets-the-clock c = omega (arith, other-answers c (closedRuns (reset ∷ [])) firstOrder (computed .some-order) (computed .no-order))
 
-pub takes-the-point : Condition2 mistaker → ⊥
-takes-the-point c = omega (arith, other-answers c resetBehind firstNumber (computed .unheard-behind) (computed .heard-behind))
+pub takes-the-link : Condition2 mistaker → ⊥
+takes-the-link c =
+    omega (arith, other-end c openedBehind (λ (card : Card). sessionNumber (card .link .session)) (computed .unopened-behind) (computed .opened-behind))
 
 pub keeps-the-session : Condition2 clinger → ⊥
 keeps-the-session c =

@@ -103,9 +103,9 @@ setter =
       buffer = seen .buffer;
     })
 
--- the point's address is taken for the link address
+-- the link address is taken for the point's: it stands in the image where the first point's should
 abbrev pub mistaker : AnyCard
 mistaker =
     withGap (λ card loan.
     ours .gap card
-    (record { image = set (set (loan .image) 4 (getD (loan .image) 15 0)) 5 (getD (loan .image) 16 0); clock = loan .clock; buffer = loan .buffer }))
+    (record { image = set (set (loan .image) 15 (getD (loan .image) 4 0)) 16 (getD (loan .image) 5 0); clock = loan .clock; buffer = loan .buffer }))
