@@ -2,7 +2,6 @@
 ghost use mathlib.Core.Bool.{_&&_, not, false};
 ghost use mathlib.Core.Path.{_≡_};
 ghost use lib.Dec.{eqb};
-ghost use lib.ListN.{length};
 ghost use Rattle.message.specs.Head.{headerOf};
 ghost use Rattle.message.specs.declared.RowFound.the-variants as found;
 ghost use Rattle.message.specs.Table.{table, rowIn};
