@@ -20,12 +20,12 @@ use Rattle.carrying.specs.declared.Waiting.the-variants.{Begin}
 use Rattle.carrying.specs.declared.Pending.{Pending}
 use Rattle.carrying.specs.Carrying.{nothingPending}
 use Rattle.giving.specs.Giving.{reply, lastly, nothingFound, readingType, dataPending, mirrorWith, dataFrom, afterData, beginWith, nextOf}
-use Rattle.giving.specs.Collected.{collected, groupsOf, inGroups, eventsMessage, readingMessage}
+use Rattle.giving.specs.Collected.{messagesCollected, groupsOf, inGroups, eventsMessage, readingMessage}
 use Rattle.giving.proofs.Groups.{groups-number, groups-full, groups-order, groups-of-one, ones-number, drop-taken}
 
 -- behind the last reply nothing is given
-nothing-more : (turns : ℕ) (image : List ℕ) → collected turns nothingPending image ≡ []
-unfolding collected nextOf nothingPending nothingFound
+nothing-more : (turns : ℕ) (image : List ℕ) → messagesCollected turns nothingPending image ≡ []
+unfolding messagesCollected nextOf nothingPending nothingFound
 nothing-more zero image = refl
 nothing-more (suc turns) image = refl
 
@@ -71,8 +71,8 @@ module _ (pending : Pending) (image : List ℕ) where
     -- a group a turn, then mirror 10
     data-collected : (most before turns : ℕ) (left : List (List ℕ)) → drop before rs ≡ left → length left ≤ most
         → length (groupsOf most (suc less) left) < turns
-        → collected turns (dataPending request (pending .clock) before) image ≡ map f (groupsOf most (suc less) left) ++ (mirrorOf request 0 10 ∷ [])
-    unfolding collected nextOf dataPending afterData groupsOf reply lastly mirrorWith given
+        → messagesCollected turns (dataPending request (pending .clock) before) image ≡ map f (groupsOf most (suc less) left) ++ (mirrorOf request 0 10 ∷ [])
+    unfolding messagesCollected nextOf dataPending afterData groupsOf reply lastly mirrorWith given
     data-collected most before zero left e fits few = absurd (omega (arith, few))
     data-collected zero before (suc turns) [] e fits few = rw (gives before, e, nothing-more turns image)
     data-collected zero before (suc turns) (r ∷ left) e fits few = absurd (omega (arith, fits))
@@ -87,15 +87,15 @@ module _ (pending : Pending) (image : List ℕ) where
 
     -- and mirror 7 before them
     begun-collected : pending .waiting ≡ Begin → (turns : ℕ) → 2 + length (inGroups (suc less) rs) ≤ turns
-        → collected turns pending image ≡ mirrorOf request 0 7 ∷ (map f (inGroups (suc less) rs) ++ (mirrorOf request 0 10 ∷ []))
-    unfolding collected nextOf beginWith reply inGroups
+        → messagesCollected turns pending image ≡ mirrorOf request 0 7 ∷ (map f (inGroups (suc less) rs) ++ (mirrorOf request 0 10 ∷ []))
+    unfolding messagesCollected nextOf beginWith reply inGroups
     begun-collected begin zero enough = absurd (omega (arith, enough))
     begun-collected begin (suc turns) enough =
         rw begin (ap (mirrorOf request 0 7 ∷_) (data-collected (length rs) 0 turns rs refl (omega arith) (omega (arith, enough))))
 
   -- 102: mirror 7, the chosen events in groups of 27, mirror 10
   pub events-collected : pending .waiting ≡ Begin → kind ≡ 102 → (turns : ℕ) → 2 + (length events + 26) / 27 ≤ turns
-      → collected turns pending image ≡ mirrorOf request 0 7 ∷ (map (eventsMessage span) (inGroups 27 events) ++ (mirrorOf request 0 10 ∷ []))
+      → messagesCollected turns pending image ≡ mirrorOf request 0 7 ∷ (map (eventsMessage span) (inGroups 27 events) ++ (mirrorOf request 0 10 ∷ []))
   unfolding dataFrom nextEvents
   events-collected begin e turns enough =
       begun-collected 26 (eventsMessage span) events (λ before. rw e (events-given span (drop before events))) begin turns
@@ -113,7 +113,7 @@ module _ (pending : Pending) (image : List ℕ) where
 
   -- 122, 123: mirror 7, a message for each chosen reading in image order, mirror 10
   pub readings-collected : pending .waiting ≡ Begin → (kind ≡ 102 → ⊥) → (turns : ℕ) → 2 + length readings ≤ turns
-      → collected turns pending image ≡ mirrorOf request 0 7 ∷ (map (readingMessage (readingType kind) span) readings ++ (mirrorOf request 0 10 ∷ []))
+      → messagesCollected turns pending image ≡ mirrorOf request 0 7 ∷ (map (readingMessage (readingType kind) span) readings ++ (mirrorOf request 0 10 ∷ []))
   unfolding dataFrom nextReading
   readings-collected begin n turns enough =
       let f : List (List ℕ) → Message = firstMessage (readingType kind) span in

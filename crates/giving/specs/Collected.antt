@@ -12,11 +12,11 @@ use Rattle.carrying.specs.declared.Pending.{Pending}
 use Rattle.giving.specs.Giving.{nextOf}
 
 -- the messages that so many collections give; the list ends where nothing waits
-unfoldable pub collected : ℕ → Pending → List ℕ → List Message
-collected zero pending image = []
-collected (suc turns) pending image =
+unfoldable pub messagesCollected : ℕ → Pending → List ℕ → List Message
+messagesCollected zero pending image = []
+messagesCollected (suc turns) pending image =
     let next = nextOf pending image in
-    if next .found then next .message ∷ collected turns (next .pending) image else []
+    if next .found then next .message ∷ messagesCollected turns (next .pending) image else []
 
 -- so many groups at most: the first `size` records, then the next, until none is left
 unfoldable pub groupsOf : ℕ → ℕ → List (List ℕ) → List (List (List ℕ))
