@@ -2,7 +2,7 @@
 ghost use Prim.Native.Nat.{_≤_};
 ghost use mathlib.Core.Path.{_≡_};
 ghost use lib.ListN.{length};
-ghost use Rattle.card.specs.State.{cardAtPowerOn, withOctet, runGone, linkedBy};
+ghost use Rattle.card.specs.State.{cardAtPowerOn, collecting, withOctet, withOctets, runGone, linkedBy};
 ghost use Rattle.card.specs.Gap.{refusal, afterAnswer, afterExamining, gapped, goneBy, octetsMeant, Gapped, Sent};
 use carrying::Order;
 use frame::Written;
@@ -47,9 +47,23 @@ impl Card {
         ensures { λ r. ⌜ r ≡ withOctet self octet ⌝ }
     {
         let collector = self.collector;
+        self.collecting(collector.with(octet))
+    }
+
+    // Octets came in, one after the other; the card is copied once for all of them.
+    pub fn octets(self, octets: &[u8]) -> Card
+        ensures { λ r. ⌜ r ≡ withOctets self (now (octets .entry)) ⌝ }
+    {
+        let collector = self.collector;
+        self.collecting(collector.with_all(octets))
+    }
+
+    fn collecting(self, collector: Collector) -> Card
+        ensures { λ r. ⌜ r ≡ collecting collector self ⌝ }
+    {
         let link = self.link;
         Card {
-            collector: collector.with(octet),
+            collector,
             link,
             damaged: self.damaged,
         }

@@ -117,16 +117,6 @@ fn word_of(line: &[u8]) -> Word {
     spelled(no_word(), octets::part(line, 1, line.len()))
 }
 
-fn fed(card: Card, s: &[u8]) -> Card {
-    let mut after = card;
-    let mut i = 0;
-    while i < s.len() {
-        after = after.octet(s[i]);
-        i += 1;
-    }
-    after
-}
-
 // Whether an octet from `from` on is no longer what it was before the gap.
 fn is_touched(buffer: &[u8], from: usize) -> bool {
     let mut i = from;
@@ -205,7 +195,7 @@ fn with_octets(bench: Bench, line: &[u8]) -> Bench {
     let octets = word.octets;
     with_card(
         bench,
-        fed(card, octets::part(&octets, 0, word.length as usize)),
+        card.octets(octets::part(&octets, 0, word.length as usize)),
     )
 }
 

@@ -1,35 +1,30 @@
--- The choice by keys is the choice by records; and the n-th place and the number of the chosen, as a loop over the places comes to them.
+-- The choice by keys is the choice by records; and what a walk over the places comes to, step by step.
 -- By the query's cases and the walk's steps. Assumes nothing.
-use Prim.Native.Nat.{ℕ, zero, suc, _-_, _^_, _<_}
+use Prim.Native.Nat.{ℕ, zero, suc, _-_, _≤_, _<_}
 use mathlib.Core.Bool.{Bool, true, false, _&&_}
 use mathlib.Core.List.{List}
 use mathlib.Core.Path.{_≡_, refl, ap, sym, _∙_}
 use native.Mathlib.Omega.{arith}
-use borrow.Author.Tests.{eqb-true}
+use borrow.Author.Tests.{eqb-true, eqb-false, eq-eqb, ne-eqb}
 use lib.Dec.{eqb}
-use lib.IntN.{ℤ}
-use lib.Signed.{mag}
 use lib.ListN.{length}
-use mir.Syntax.{w64}
-use mir.Val.{toZ, ofZ}
-use mir.Facts.{toZ-ofZ}
-use Rattle.records.specs.Records.{kindOf, wholeAt, recordAt, recordsFrom, placeAfter}
-use Rattle.records.specs.Said.{howMany}
+use Rattle.octets.proofs.Choice.{either}
+use Rattle.records.specs.Records.{kindOf, wholeAt, recordAt, recordsFrom, kindAt, placeAfter}
+use Rattle.records.specs.Said.{keep, howMany}
+use Rattle.records.proofs.Records.{after-later, after-within}
 use Rattle.records.proofs.Said.{places-end, places-hit, places-pass}
-use Rattle.records.proofs.Places.{as-many-places}
+use Rattle.records.proofs.Places.{Lie, lie, none, one, as-many-places}
 use Rattle.parts.specs.declared.Key.{Key}
-use Rattle.parts.specs.Key.{keyOf, keyAt}
+use Rattle.parts.specs.Key.{keyOf, keyAt, keyAs}
 use Rattle.parts.specs.Answers.{recordsOf}
-use Rattle.parts.proofs.Parts.{key-kind, key-2, key-4, key-5, key-whole}
+use Rattle.parts.proofs.Parts.{key-kind, key-2, key-4, key-5, key-whole, key-at-kind, key-as, key-not-as}
+use Rattle.choice.specs.declared.Span.{Span}
 use Rattle.choice.specs.declared.Query.{Query}
 use Rattle.choice.specs.declared.Query.the-variants.{Kind, Point, Reading, Event}
 use Rattle.choice.specs.declared.Found.the-variants.{At, Nothing}
+use Rattle.choice.specs.declared.Walked.{Walked}
 use Rattle.choice.specs.Choice.{inSpan, chosen, choice, placesFrom, nthPlace}
 use Rattle.choice.specs.Keys.{keyInSpan, keyChosen}
-
--- a signed number that fits, through its bits and back
-pub back : (z : ℤ) → mag z < 2 ^ 63 → toZ w64 (ofZ w64 z) ≡ z
-back z h = toZ-ofZ {w = w64} (record { sfits = h })
 
 -- a kind first, and then what records of it have
 guarded : (n kind : ℕ) (t u : Bool) → (n ≡ kind → t ≡ u) → (eqb n kind && t) ≡ (eqb n kind && u)
@@ -53,46 +48,74 @@ chosen-key (Event span) r =
     ∙ guarded (kindOf r) 5 _ _ (λ k. rw (key-5 r k))
 
 -- of the record at a place, as it was answered
-pub chosen-there : (query : Query) (s : List ℕ) (at : ℕ) (k : Key) {answer value : Bool} → wholeAt s at ≡ true → k ≡ keyAt s at
-    → answer ≡ keyChosen query k → answer ≡ value → chosen query (recordAt s at) ≡ value
-chosen-there query s at k w e a v =
-    sym (chosen-key query (recordAt s at)) ∙ ap (keyChosen query) (sym (e ∙ key-whole s at w)) ∙ sym a ∙ v
+pub chosen-there : (query : Query) (s : List ℕ) (at : ℕ) {answer value : Bool} → wholeAt s at ≡ true → answer ≡ keyChosen query (keyAt s at)
+    → answer ≡ value → chosen query (recordAt s at) ≡ value
+chosen-there query s at w a v = sym (chosen-key query (recordAt s at)) ∙ ap (keyChosen query) (sym (key-whole s at w)) ∙ sym a ∙ v
 
--- the n-th place, and how many there are, from a place on
+-- by the key asked for as one kind, as by the key there: where it has that kind, and where it has not
+module _ (kind : ℕ) (some : 0 < kind) (s : List ℕ) (at : ℕ) (span : Span) (k : Key) (e : k ≡ keyAs kind s at) where
+  as-kind : (eqb (k .kind) kind && keyInSpan span k) ≡ (eqb (keyAt s at .kind) kind && keyInSpan span (keyAt s at))
+  as-kind = by-test (eqb (kindAt s at) kind) refl
+    where
+      by-test : (t : Bool) → eqb (kindAt s at) kind ≡ t
+          → (eqb (k .kind) kind && keyInSpan span k) ≡ (eqb (keyAt s at .kind) kind && keyInSpan span (keyAt s at))
+      by-test true t = rw (e, key-as s at kind (eqb-true _ _ t))
+      by-test false t = rw (e, key-not-as s at kind (eqb-false _ _ t), key-at-kind s at, t, ne-eqb 0 kind (λ z. omega arith))
+
+  pub of-kind : {answer : Bool} → k .kind ≡ kind → answer ≡ keyInSpan span k → answer ≡ (eqb (keyAt s at .kind) kind && keyInSpan span (keyAt s at))
+  of-kind same a = a ∙ (rw (eq-eqb (k .kind) kind same) at as-kind)
+
+  pub not-of-kind : (k .kind ≡ kind → ⊥) → false ≡ (eqb (keyAt s at .kind) kind && keyInSpan span (keyAt s at))
+  not-of-kind other = rw (ne-eqb (k .kind) kind other) at as-kind
+
+-- what a walk comes to: the n-th of the places, and how many of n are left where there are fewer
+abbrev pub walked : ℕ → List ℕ → Walked
+walked n ps = record { found = nthPlace n ps; left = n - length ps }
+
 module _ (query : Query) (s : List ℕ) (at : ℕ) where
-  pub nth-end : (n : ℕ) → wholeAt s at ≡ false → Nothing ≡ nthPlace n (placesFrom query s at)
+  pub walk-end : (n : ℕ) → wholeAt s at ≡ false → record { found = Nothing; left = n } ≡ walked n (placesFrom query s at)
   unfolding placesFrom nthPlace
-  nth-end n e = sym (rw (places-end (chosen query) s at e))
+  walk-end n e = let all : n - 0 ≡ n = omega arith in sym (rw (places-end (chosen query) s at e, all))
 
-  pub nth-here : wholeAt s at ≡ true → chosen query (recordAt s at) ≡ true → At at ≡ nthPlace 0 (placesFrom query s at)
+  pub walk-here : (n : ℕ) → wholeAt s at ≡ true → chosen query (recordAt s at) ≡ true → n ≡ 0
+      → record { found = At at; left = n } ≡ walked n (placesFrom query s at)
   unfolding placesFrom nthPlace
-  nth-here e p = sym (rw (places-hit (chosen query) s at e p))
+  walk-here n e p z =
+      let none-left : 0 - length (placesFrom query s at) ≡ 0 = omega arith in
+      sym (rw (z, none-left, places-hit (chosen query) s at e p))
 
-  pub nth-skip : (n : ℕ) → wholeAt s at ≡ true → chosen query (recordAt s at) ≡ true → (n ≡ 0 → ⊥)
-      → nthPlace (n - 1) (placesFrom query s (placeAfter s at)) ≡ nthPlace n (placesFrom query s at)
+  pub walk-skip : (n : ℕ) → wholeAt s at ≡ true → chosen query (recordAt s at) ≡ true → (n ≡ 0 → ⊥)
+      → walked (n - 1) (placesFrom query s (placeAfter s at)) ≡ walked n (placesFrom query s at)
   unfolding placesFrom nthPlace
-  nth-skip zero e p n = absurd (n refl)
-  nth-skip (suc m) e p n = let one : suc m - 1 ≡ m = omega arith in rw (places-hit (chosen query) s at e p, one)
+  walk-skip zero e p n = absurd (n refl)
+  walk-skip (suc m) e p n =
+      let one : suc m - 1 ≡ m = omega arith in
+      let both : suc m - suc (length (placesFrom query s (placeAfter s at))) ≡ m - length (placesFrom query s (placeAfter s at)) = omega arith in
+      rw (places-hit (chosen query) s at e p, one, both)
 
-  pub nth-pass : (n : ℕ) → wholeAt s at ≡ true → chosen query (recordAt s at) ≡ false
-      → nthPlace n (placesFrom query s (placeAfter s at)) ≡ nthPlace n (placesFrom query s at)
+  pub walk-pass : (n : ℕ) → wholeAt s at ≡ true → chosen query (recordAt s at) ≡ false
+      → walked n (placesFrom query s (placeAfter s at)) ≡ walked n (placesFrom query s at)
   unfolding placesFrom
-  nth-pass n e p = rw (places-pass (chosen query) s at e p)
+  walk-pass n e p = rw (places-pass (chosen query) s at e p)
 
-  pub number-end : wholeAt s at ≡ false → length (placesFrom query s at) ≡ 0
-  unfolding placesFrom
-  number-end e = ap length (places-end (chosen query) s at e)
+-- two walks that come to the same answer the same
+pub walk-answers : {v w : Walked} → v ≡ w → (v .found ≡ w .found) × (v .left ≡ w .left)
+walk-answers e = (ap (λ (u : Walked). u .found) e, ap (λ (u : Walked). u .left) e)
 
-  pub number-hit : wholeAt s at ≡ true → chosen query (recordAt s at) ≡ true
-      → length (placesFrom query s at) ≡ suc (length (placesFrom query s (placeAfter s at)))
-  unfolding placesFrom
-  number-hit e p = ap length (places-hit (chosen query) s at e p)
-
-  pub number-pass : wholeAt s at ≡ true → chosen query (recordAt s at) ≡ false
-      → length (placesFrom query s at) ≡ length (placesFrom query s (placeAfter s at))
-  unfolding placesFrom
-  number-pass e p = ap length (places-pass (chosen query) s at e p)
-
+-- there are as many places as chosen records, and no more than octets
 pub number-all : (query : Query) (s : List ℕ) → length (placesFrom query s 1) ≡ length (choice query s)
 unfolding placesFrom choice recordsOf howMany
 number-all query s = as-many-places (chosen query) 1 (recordsFrom s 1)
+
+keep-few : {s : List ℕ} {at : ℕ} {rs : List (List ℕ)} (f : List ℕ → Bool) → Lie s at rs → length (keep f rs) ≤ length s - at
+unfolding keep
+keep-few f (none e) = omega arith
+keep-few {s} {at} f (one e l) =
+    let rest = keep-few f l in
+    let later = after-later s at e in
+    let within = after-within s at e in
+    either (λ (qs : List (List ℕ)). length qs ≤ length s - at) (f (recordAt s at)) (λ _. omega arith) (λ _. omega arith)
+
+pub choice-few : (query : Query) (s : List ℕ) → length (choice query s) ≤ length s
+unfolding choice recordsOf
+choice-few query s = omega (arith, keep-few (chosen query) (lie s 1))

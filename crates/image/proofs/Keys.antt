@@ -1,4 +1,4 @@
--- The rules by keys are the rules by records; and the walk's test from a place on, as a loop comes to it.
+-- The rules by keys are the rules by records; and the walk's test from a place on, as a walk comes to it.
 -- By the kind of a record, and by recursion on the records. Assumes nothing.
 use Prim.Native.Nat.{ℕ, _+_, _<_}
 use mathlib.Core.Bool.{Bool, true, false, not, _&&_, and-false}
@@ -21,10 +21,10 @@ use Rattle.records.proofs.Places.{lie, each-whole}
 use Rattle.parts.specs.declared.Key.{Key}
 use Rattle.parts.specs.Parts.{pointOf, readingLabel}
 use Rattle.parts.specs.Key.{atMinute, noLabel, key, keyOf}
-use Rattle.parts.specs.Answers.{recordsOf, datesAt}
+use Rattle.parts.specs.Answers.{recordsOf, pointsOf, datesAt}
 use Rattle.parts.proofs.Parts.{key-kind, key-2, key-4, key-5}
 use Rattle.image.specs.Image.{readingRecord, eventRecord, right, byPoint, readingBefore, eventBefore, inOrder}
-use Rattle.image.specs.Keys.{validDates, keyBefore, keysInOrder, orderly}
+use Rattle.image.specs.Keys.{validDates, byKey, keyBefore, keysInOrder, knownIn, orderly, fits, chain, left}
 
 -- a record by itself, by its key
 module _ (r : List ℕ) (k : Key) (e : k ≡ keyOf r) where
@@ -59,7 +59,7 @@ unfolding right datesAt validDates
 right-3 s at e n = rw (kind-whole s at e ∙ sym (kind-there s at e) ∙ n, n)
 
 -- labels a compared as labels b at the start of their minutes
-minutes-only : (l l′ : LabelA) → beforeB (atMinute l) (atMinute l′) ≡ beforeA l l′
+pub minutes-only : (l l′ : LabelA) → beforeB (atMinute l) (atMinute l′) ≡ beforeA l l′
 unfolding beforeB inMinute second millisecond lowFirst
 minutes-only l l′ = by-tests (beforeA l l′) (beforeA l′ l)
   where
@@ -71,11 +71,11 @@ minutes-only l l′ = by-tests (beforeA l l′) (beforeA l′ l)
 -- neighbours, by their keys
 module _ (r q : List ℕ) where
   reading-keys : kindOf r ≡ 4 → kindOf q ≡ 4 → readingBefore r q ≡ keyBefore (keyOf r) (keyOf q)
-  unfolding readingBefore byPoint keyBefore
+  unfolding readingBefore byPoint keyBefore byKey
   reading-keys k l = rw (key-4 r k, key-4 q l, minutes-only (readingLabel r) (readingLabel q))
 
   event-keys : kindOf r ≡ 5 → kindOf q ≡ 5 → eventBefore q r ≡ keyBefore (keyOf q) (keyOf r)
-  unfolding eventBefore byPoint keyBefore
+  unfolding eventBefore byPoint keyBefore byKey
   event-keys k l = rw (key-5 r k, key-5 q l)
 
   point-keys : kindOf r ≡ 2 → kindOf q ≡ 2 → ltb (pointOf r) (pointOf q) ≡ ltb (keyOf r .point .0) (keyOf q .point .0)
@@ -102,7 +102,7 @@ module _ (r q : List ℕ) where
   order-keys = by-kinds (keyOf r .kind) (keyOf q .kind) (key-kind r) (key-kind q)
 
 -- each stands to the one before it as the keys say; the first stands behind a key
-unfoldable pub follows : Key → List (List ℕ) → Bool
+follows : Key → List (List ℕ) → Bool
 follows k [] = true
 follows k (r ∷ rs) = keysInOrder k (keyOf r) && follows (keyOf r) rs
 
@@ -111,37 +111,45 @@ unfolding linked follows
 linked-follows r [] = refl
 linked-follows r (q ∷ rs) = rw (order-keys r q, linked-follows q rs)
 
--- what is left of the walk's test from a place on, behind a key
-unfoldable pub left : List ℕ → ℕ → Key → Bool
-left s at k = every right (recordsFrom s at) && (follows k (recordsFrom s at) && eqb (at + length (flatten (recordsFrom s at))) (length s))
+-- the walk's three conditions one by one
+chain-parts : (points : List (List ℕ)) (k : Key) (rs : List (List ℕ))
+    → chain points k rs ≡ (every right rs && (follows k rs && every (knownIn points) rs))
+unfolding chain fits follows every
+chain-parts points k [] = refl
+chain-parts points k (r ∷ rs) =
+    rw (chain-parts points (keyOf r) rs)
+    (sorted (right r) (keysInOrder k (keyOf r)) (knownIn points r) (every right rs) (follows (keyOf r) rs) (every (knownIn points) rs))
+  where
+    sorted : (a b c x y z : Bool) → ((a && (b && c)) && (x && (y && z))) ≡ ((a && x) && ((b && y) && (c && z)))
+    sorted false b c x y z = refl
+    sorted true false c x y z = sym (and-false x)
+    sorted true true false x false z = sym (and-false x)
+    sorted true true false x true z = sym (and-false x)
+    sorted true true true x y z = refl
 
+-- what is left of the walk's test from a place on, behind a key
 module _ (s : List ℕ) (at : ℕ) (k : Key) where
   pub left-end : wholeAt s at ≡ false → eqb at (length s) ≡ left s at k
-  unfolding left follows every flatten
+  unfolding left chain flatten
   left-end e = let z : at + 0 ≡ at = omega arith in sym (rw (from-end s at e, z))
 
   left-more : wholeAt s at ≡ true
       → left s at k
-      ≡ ((right (recordAt s at) && every right (recordsFrom s (placeAfter s at)))
-      && ((keysInOrder k (keyOf (recordAt s at)) && follows (keyOf (recordAt s at)) (recordsFrom s (placeAfter s at)))
-      && eqb (placeAfter s at + length (flatten (recordsFrom s (placeAfter s at)))) (length s)))
-  unfolding left follows every flatten
+      ≡ ((fits (pointsOf s) k (recordAt s at) && chain (pointsOf s) (keyOf (recordAt s at)) (recordsFrom s (placeAfter s at)))
+      && eqb (placeAfter s at + length (flatten (recordsFrom s (placeAfter s at)))) (length s))
+  unfolding left chain flatten
   left-more e =
       let rs = recordsFrom s (placeAfter s at) in
       let reach : at + length (recordAt s at ++ flatten rs) ≡ placeAfter s at + length (flatten rs) =
       omega (arith, length-append (recordAt s at) (flatten rs), after-whole s at e) in
       rw (from-more s at e, reach)
 
-  pub left-step : wholeAt s at ≡ true → right (recordAt s at) ≡ true → keysInOrder k (keyOf (recordAt s at)) ≡ true
-      → left s (placeAfter s at) (keyOf (recordAt s at)) ≡ left s at k
+  pub left-step : wholeAt s at ≡ true → fits (pointsOf s) k (recordAt s at) ≡ true → left s (placeAfter s at) (keyOf (recordAt s at)) ≡ left s at k
   unfolding left
-  left-step e p o = sym (left-more e ∙ rw (p, o))
+  left-step e p = sym (left-more e ∙ rw p)
 
-  pub left-wrong : wholeAt s at ≡ true → right (recordAt s at) ≡ false → false ≡ left s at k
-  left-wrong e p = sym (left-more e ∙ rw p)
-
-  pub left-unordered : wholeAt s at ≡ true → keysInOrder k (keyOf (recordAt s at)) ≡ false → false ≡ left s at k
-  left-unordered e o = sym (left-more e ∙ rw o (and-false (right (recordAt s at) && every right (recordsFrom s (placeAfter s at)))))
+  pub left-stop : wholeAt s at ≡ true → fits (pointsOf s) k (recordAt s at) ≡ false → false ≡ left s at k
+  left-stop e p = sym (left-more e ∙ rw p)
 
 -- every record may stand behind the key before all
 behind-none : (l : Key) → 0 < l .kind → keysInOrder (key 0 0 0 noLabel) l ≡ true
@@ -157,4 +165,12 @@ first-free (r ∷ rs) w =
 
 pub left-all : (s : List ℕ) → left s 1 (key 0 0 0 noLabel) ≡ orderly s
 unfolding left orderly recordsOf
-left-all s = rw (first-free (recordsFrom s 1) (each-whole (lie s 1)))
+left-all s =
+    let rs = recordsFrom s 1 in
+    rw (chain-parts (pointsOf s) (key 0 0 0 noLabel) rs, first-free rs (each-whole (lie s 1)))
+    (regrouped (every right rs) (linked inOrder rs) (every (knownIn (pointsOf s)) rs) _)
+  where
+    regrouped : (a b c d : Bool) → ((a && (b && c)) && d) ≡ (a && (b && (c && d)))
+    regrouped false b c d = refl
+    regrouped true false c d = refl
+    regrouped true true c d = refl

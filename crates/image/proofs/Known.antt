@@ -18,12 +18,11 @@ use Rattle.records.proofs.Said.{every-so, every-same, keep-none}
 use Rattle.parts.specs.declared.Key.{Key}
 use Rattle.parts.specs.declared.PointFound.{PointFound}
 use Rattle.parts.specs.Parts.{pointOf, isKind, isPoint}
-use Rattle.parts.specs.Key.{keyOf, keyAt}
+use Rattle.parts.specs.Key.{keyOf}
 use Rattle.parts.specs.Answers.{recordsOf, leading, pointsFrom, pointsOf, pointIn, pointFound}
-use Rattle.parts.proofs.Parts.{key-whole, key-4, key-5}
+use Rattle.parts.proofs.Parts.{key-kind, key-4, key-5}
 use Rattle.image.specs.Image.{inOrder, knows}
-use Rattle.image.specs.Keys.{isFound, knownIn}
-use Rattle.image.proofs.Keys.{same-kind}
+use Rattle.image.specs.Keys.{isFound, knownIn, keyKnown}
 use Rattle.image.proofs.Order.{order-kinds, order-once, linked-tail, before-rest}
 
 -- a reading or an event has its point in its key
@@ -36,21 +35,20 @@ named r w h = by-test (eqb (kindOf r) 4) refl
         let other : kindOf r ≡ 4 → ⊥ = eqb-false (kindOf r) 4 e in
         ap (λ (l : Key). l .point .0) (key-5 r (omega (arith, last-kind (kindOf r) (w .some))))
 
--- a record of kinds 1 to 3 names no point; any other names its key's
-module _ (s : List ℕ) (at : ℕ) (k : Key) (e : wholeAt s at ≡ true) (f : k ≡ keyAt s at) where
-  key-there : k ≡ keyOf (recordAt s at)
-  key-there = f ∙ key-whole s at e
+pub known-keys : (points : List (List ℕ)) (r : List ℕ) → Whole r → keyKnown points (keyOf r) ≡ knownIn points r
+unfolding keyKnown knownIn
+known-keys points r w =
+    rw (key-kind r)
+    (if-both (λ (t u : Bool). t ≡ u) (leb 4 (kindOf r)) (λ h. rw (named r w (leb-true 4 (kindOf r) h))) (λ h. refl))
 
-  pub known-low : k .kind < 4 → true ≡ knownIn (pointsOf s) (recordAt s at)
-  unfolding knownIn
-  known-low h = rw (lt-leb 4 (kindOf (recordAt s at)) (omega (arith, same-kind _ k key-there)))
+-- a record of kinds 1 to 3 names no point
+pub known-low : (points : List (List ℕ)) (k : Key) → k .kind < 4 → true ≡ keyKnown points k
+unfolding keyKnown
+known-low points k h = sym (rw (lt-leb 4 (k .kind) h))
 
-  pub known-high : 4 ≤ k .kind → (found : PointFound) → found ≡ pointFound (k .point) s → isFound found ≡ knownIn (pointsOf s) (recordAt s at)
-  unfolding knownIn pointFound
-  known-high h found g =
-      let r = recordAt s at in
-      let same : k .point .0 ≡ pointOf r = ap (λ (l : Key). l .point .0) key-there ∙ named r (whole-facts r (whole-itself s at e)) (omega (arith, same-kind r k key-there)) in
-      rw (le-leb 4 (kindOf r) (omega (arith, same-kind r k key-there)), g, same)
+pub known-high : (s : List ℕ) (k : Key) → 4 ≤ k .kind → (found : PointFound) → found ≡ pointFound (k .point) s → isFound found ≡ keyKnown (pointsOf s) k
+unfolding keyKnown pointFound
+known-high s k h found g = rw (le-leb 4 (k .kind) h, g)
 
 -- the points among records of kinds from 2 on, in order: those in front
 module _ (f : List ℕ → Bool) (point-only : (r : List ℕ) → f r ≡ true → kindOf r ≡ 2) where

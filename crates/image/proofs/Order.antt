@@ -3,19 +3,19 @@
 use Prim.Native.Nat.{ℕ, zero, suc, _≤_, _<_}
 use mathlib.Core.Bool.{Bool, true, false, not}
 use mathlib.Core.List.{List, [], _∷_}
-use mathlib.Core.Path.{_≡_, refl, ap, sym, _∙_}
+use mathlib.Core.Path.{_≡_, refl, ap, ap₂, sym, _∙_}
 use native.Mathlib.Omega.{arith}
 use borrow.Author.Tests.{eqb-true, eqb-false, ltb-true, ltb-false, eq-eqb, ne-eqb, lt-ltb, le-ltb, le-leb, not-true}
 use lib.Dec.{ltb, eqb}
 use lib.ListN.{length, getD}
-use lib.Signed.{leZ}
+use lib.Signed.{mag, ltZ, leZ}
 use Rattle.octets.specs.Choice.{if_then_else_}
 use Rattle.octets.proofs.Choice.{not-both, same-test}
 use Rattle.octets.proofs.Conditions.{and-left, and-right}
 use Rattle.label.specs.declared.LabelA.{LabelA}
 use Rattle.label.specs.declared.LabelB.{LabelB}
-use Rattle.label.specs.Time.{minutes}
-use Rattle.label.specs.Label.{dateTimeA, validA, instant, beforeA, beforeB, inMinute}
+use Rattle.label.specs.Label.{instant, beforeA, beforeB, inMinute}
+use Rattle.label.proofs.Label.{instant-pos}
 use Rattle.records.specs.Records.{kindOf}
 use Rattle.records.specs.Said.{every, linked}
 use Rattle.records.proofs.Said.{every-at}
@@ -23,7 +23,7 @@ use Rattle.parts.specs.Parts.{pointOf, recordOf, readingLabel, eventLabel}
 use Rattle.image.specs.Image.{byPoint, readingBefore, eventBefore, inOrder}
 
 -- one part of a comparison: where the numbers differ they decide, and else the rest does
-abbrev part : ℕ → ℕ → Bool → Bool
+abbrev pub part : ℕ → ℕ → Bool → Bool
 part x y rest = if not (eqb x y) then ltb x y else rest
 
 data Part (x y : ℕ) (rest : Bool) : Type 0 where
@@ -54,7 +54,7 @@ part-trans x y z t u v next e f = by-parts (part-true x y t e) (part-true y z u 
     by-parts (passed g k) (passed h l) = part-same x z v (g ∙ h) (next g h k l)
 
 -- the other way round
-part-not : (x y : ℕ) (rest : Bool) → not (part y x rest) ≡ part x y (not rest)
+pub part-not : (x y : ℕ) (rest : Bool) → not (part y x rest) ≡ part x y (not rest)
 part-not x y rest = by-tests (eqb y x) (eqb x y) refl refl
   where
     by-tests : (t u : Bool) → eqb y x ≡ t → eqb x y ≡ u → not (if not t then ltb y x else rest) ≡ (if not u then ltb x y else not rest)
@@ -69,11 +69,15 @@ part-not x y rest = by-tests (eqb y x) (eqb x y) refl refl
 
 -- labels by their numbers
 minuteOf : LabelA → ℕ
-minuteOf l = if validA l then minutes (dateTimeA l) else 0
+minuteOf l = mag (instant l)
 
 before-a : (l l′ : LabelA) → beforeA l l′ ≡ ltb (minuteOf l) (minuteOf l′)
-unfolding beforeA instant minuteOf
-before-a l l′ = refl
+unfolding beforeA minuteOf
+before-a l l′ = ap₂ ltZ (instant-pos l) (instant-pos l′)
+
+at-most-a : (l l′ : LabelA) → minuteOf l ≤ minuteOf l′ → leZ (instant l) (instant l′) ≡ true
+unfolding minuteOf
+at-most-a l l′ h = ap₂ leZ (instant-pos l) (instant-pos l′) ∙ le-leb (mag (instant l)) (mag (instant l′)) h
 
 before-b : (l l′ : LabelB) → beforeB l l′ ≡ part (minuteOf (l .a)) (minuteOf (l′ .a)) (ltb (inMinute l) (inMinute l′))
 unfolding beforeB
@@ -216,22 +220,22 @@ module _ (r q : List ℕ) (points : pointOf r ≡ pointOf q) (addresses : record
   same-kind-order e = same-part (kindOf r) (kindOf q) _ e (rw (in-order-parts r q) at o)
 
   pub readings-rise : kindOf r ≡ 4 → kindOf q ≡ 4 → leZ (instant (readingLabel r)) (instant (readingLabel q)) ≡ true
-  unfolding sameKind readingBefore byPoint instant minuteOf
+  unfolding sameKind readingBefore byPoint
   readings-rise k l =
       let before : readingBefore r q ≡ true = rw k at (same-kind-order (k ∙ sym l)) in
       let labels : beforeA (readingLabel r) (readingLabel q) ≡ true = same-part (recordOf r) (recordOf q) _ addresses (same-part (pointOf r) (pointOf q) _ points before) in
       let less : minuteOf (readingLabel r) < minuteOf (readingLabel q) = ltb-true _ _ (sym (before-a (readingLabel r) (readingLabel q)) ∙ labels) in
-      le-leb (minuteOf (readingLabel r)) (minuteOf (readingLabel q)) (omega arith)
+      at-most-a (readingLabel r) (readingLabel q) (omega arith)
 
   pub events-rise : kindOf r ≡ 5 → kindOf q ≡ 5 → leZ (instant (eventLabel r .a)) (instant (eventLabel q .a)) ≡ true
-  unfolding sameKind instant minuteOf
+  unfolding sameKind
   events-rise k l =
       let x = minuteOf (eventLabel r .a) in
       let y = minuteOf (eventLabel q .a) in
       let parts = sym (not-event r q) ∙ (rw k at (same-kind-order (k ∙ sym l))) in
       let labels : part x y (not (ltb (inMinute (eventLabel q)) (inMinute (eventLabel r)))) ≡ true =
       same-part (recordOf r) (recordOf q) _ addresses (same-part (pointOf r) (pointOf q) _ points parts) in
-      le-leb x y (at-most (part-true x y _ labels))
+      at-most-a (eventLabel r .a) (eventLabel q .a) (at-most (part-true x y _ labels))
     where
       at-most : {x y : ℕ} {rest : Bool} → Part x y rest → x ≤ y
       at-most (decided h) = omega arith

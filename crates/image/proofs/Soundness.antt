@@ -3,13 +3,13 @@
 use Prim.Native.Nat.{ℕ, _+_, _≤_, _<_}
 use mathlib.Core.Bool.{Bool, true, false, _&&_, and-true}
 use mathlib.Core.List.{List, [], _∷_, flatten}
-use mathlib.Core.Path.{_≡_, refl, ap}
+use mathlib.Core.Path.{_≡_, refl, ap, sym}
 use native.Mathlib.Omega.{arith}
 use borrow.Author.Tests.{eqb-true, eqb-false, leb-true, eq-eqb, le-leb}
 use lib.Dec.{eqb}
 use lib.ListN.{length, getD}
 use Rattle.octets.specs.Conditions.{holds}
-use Rattle.octets.proofs.Choice.{refuted}
+use Rattle.octets.proofs.Choice.{same-test}
 use Rattle.octets.proofs.Conditions.{and-left, and-right, holds-at}
 use Rattle.label.specs.Label.{validA, validB}
 use Rattle.records.specs.Records.{kindOf, recordAt, kindAt}
@@ -51,14 +51,24 @@ rules image e =
       all-known = holds-at _ e 9;
     }
 
+-- the first record is of kind 1
+pub has-head : (image : List ℕ) → Rules image → kindAt image 1 ≡ 1
+has-head image s = by-test (eqb (kindAt image 1) 1) refl
+  where
+    by-test : (t : Bool) → eqb (kindAt image 1) 1 ≡ t → kindAt image 1 ≡ 1
+    by-test true e = eqb-true (kindAt image 1) 1 e
+    by-test false e = absurd (omega (arith, s .one-head, head-missing image (s .in-order) (eqb-false (kindAt image 1) 1 e)))
+
 pub rules-orderly : (image : List ℕ) → Rules image → orderly image ≡ true
 unfolding orderly
-rules-orderly image s = rw (s .all-right, s .in-order, eq-eqb _ _ (s .reaches))
+rules-orderly image s =
+    rw (s .all-right, s .in-order, all-known-found image (s .in-order) (has-head image s), s .all-known, eq-eqb _ _ (s .reaches))
 
 -- what an orderly image is
 pub record Orderly (image : List ℕ) : Type 0 where
   pub each-right : every right (recordsOf image) ≡ true
   pub linked-in-order : linked inOrder (recordsOf image) ≡ true
+  pub each-found : every (knownIn (pointsOf image)) (recordsOf image) ≡ true
   pub to-the-end : 1 + length (flatten (recordsOf image)) ≡ length image
 
 pub orderly-facts : (image : List ℕ) → orderly image ≡ true → Orderly image
@@ -66,44 +76,45 @@ unfolding orderly
 orderly-facts image e =
     let rs = recordsOf image in
     let rest = and-right (every right rs) _ e in
+    let more = and-right (linked inOrder rs) _ rest in
     record {
       each-right = and-left (every right rs) _ e;
       linked-in-order = and-left (linked inOrder rs) _ rest;
-      to-the-end = eqb-true _ _ (and-right (linked inOrder rs) _ rest);
+      each-found = and-left (every (knownIn (pointsOf image)) rs) _ more;
+      to-the-end = eqb-true _ _ (and-right (every (knownIn (pointsOf image)) rs) _ more);
     }
 
--- of an orderly image the first record and the points decide
-module _ (image : List ℕ) (o : orderly image ≡ true) where
-  order-of : linked inOrder (recordsOf image) ≡ true
-  order-of = orderly-facts image o .linked-in-order
+-- the points of a sound image are counted behind its first record
+pub points-counted : (image : List ℕ) → Rules image → howMany (isKind 2) (recordsOf image) ≡ length (pointsOf image)
+unfolding howMany
+points-counted image s = ap length (all-points image (s .in-order) (has-head image s))
 
-  pub no-head-unsound : (kindAt image 1 ≡ 1 → ⊥) → false ≡ soundImage image
-  no-head-unsound n = refuted _ (λ e. omega (arith, rules image e .one-head, head-missing image order-of n))
+-- where the size, the version, the first record and the number of points are right, the walk decides
+module _ (image : List ℕ) (short : length image ≤ 65535) (version : getD image 0 0 ≡ 1) (k : kindAt image 1 ≡ 1)
+    (some : 1 ≤ length (pointsOf image)) (few : length (pointsOf image) ≤ 8) where
+  all-rules : orderly image ≡ true → soundImage image ≡ true
+  unfolding soundImage holds howMany
+  all-rules o =
+      let f = orderly-facts image o in
+      let order = f .linked-in-order in
+      simp (
+        le-leb (length image) 65535 short,
+        eq-eqb (getD image 0 0) 1 version,
+        eq-eqb (1 + length (flatten (recordsOf image))) (length image) (f .to-the-end),
+        head-only image order k,
+        all-points image order k,
+        le-leb 1 (length (pointsOf image)) some,
+        le-leb (length (pointsOf image)) 8 few,
+        le-leb (howMany (isKind 3) (recordsOf image)) 1 (dates-at-most-once (recordsOf image) order),
+        f .each-right,
+        order,
+        sym (all-known-found image order k),
+        f .each-found,
+        and-true,
+      )
 
-  module _ (k : kindAt image 1 ≡ 1) where
-    pub points-counted : howMany (isKind 2) (recordsOf image) ≡ length (pointsOf image)
-    unfolding howMany
-    points-counted = ap length (all-points image order-of k)
-
-    pub known-decides : length image ≤ 65535 → getD image 0 0 ≡ 1 → 1 ≤ length (pointsOf image) → length (pointsOf image) ≤ 8
-        → every (knownIn (pointsOf image)) (recordsOf image) ≡ soundImage image
-    unfolding soundImage holds howMany
-    known-decides short version some few =
-        let f = orderly-facts image o in
-        simp (
-          le-leb (length image) 65535 short,
-          eq-eqb (getD image 0 0) 1 version,
-          eq-eqb (1 + length (flatten (recordsOf image))) (length image) (f .to-the-end),
-          head-only image order-of k,
-          all-points image order-of k,
-          le-leb 1 (length (pointsOf image)) some,
-          le-leb (length (pointsOf image)) 8 few,
-          le-leb (howMany (isKind 3) (recordsOf image)) 1 (dates-at-most-once (recordsOf image) order-of),
-          f .each-right,
-          f .linked-in-order,
-          and-true,
-        )
-        (all-known-found image order-of k)
+  pub walk-decides : orderly image ≡ soundImage image
+  walk-decides = same-test (orderly image) (soundImage image) all-rules (λ e. rules-orderly image (rules image e))
 
 -- each record of its kind, by itself
 module _ (r : List ℕ) (e : right r ≡ true) where
@@ -153,10 +164,3 @@ sound-facts image e =
       two-in-order = any-two rs (s .in-order);
       each-known = every-at (knows rs) rs (s .all-known);
     }
-  where
-    has-head : (image : List ℕ) → Rules image → kindAt image 1 ≡ 1
-    has-head image s = by-test (eqb (kindAt image 1) 1) refl
-      where
-        by-test : (t : Bool) → eqb (kindAt image 1) 1 ≡ t → kindAt image 1 ≡ 1
-        by-test true e = eqb-true (kindAt image 1) 1 e
-        by-test false e = absurd (omega (arith, s .one-head, head-missing image (s .in-order) (eqb-false (kindAt image 1) 1 e)))

@@ -1,16 +1,18 @@
-// Whether an image is sound. The records are walked twice, with constant work a record; the points are looked up among the first
-// records.
+// Whether an image is sound. The records are walked once, with constant work a record. Readings and events stand in long runs of one
+// kind; each of the two has a loop of its own, which keeps the instant of the last record, so that each label is judged once, and
+// looks a point up among the first records only where it differs from the last record's.
 ghost use mathlib.Core.Path.{_≡_};
-ghost use mathlib.Core.Bool.{true};
+ghost use mathlib.Core.Bool.{true, not, _&&_};
+ghost use Rattle.label.specs.Label.{instant, beforeB, momentA, momentB};
 ghost use Rattle.records.specs.Records.{wholeAt, recordAt};
-ghost use Rattle.records.specs.Said.{every};
 ghost use Rattle.parts.specs.Key.{key, noLabel, keyOf};
-ghost use Rattle.parts.specs.Answers.{recordsOf, pointsOf};
+ghost use Rattle.parts.specs.Answers.{pointsOf};
 ghost use Rattle.image.specs.Image.{readingRecord, eventRecord, right, soundImage};
-ghost use Rattle.image.specs.Keys.{validDates, keyBefore, keysInOrder, orderly, knownIn};
+ghost use Rattle.image.specs.Keys.{validDates, byKey, keyBefore, keysInOrder, orderly, fits, keyKnown, keyFits, Judged, Behind, Onward};
 use address::PointAddress;
 use label::LabelA;
 use label::LabelB;
+use label::Moment;
 use parts::DatesFound;
 use parts::Key;
 use parts::PointFound;
@@ -141,36 +143,10 @@ fn before_all() -> Key
     }
 }
 
-// The first walk: each record right, neighbours in order, records to the exact end.
-fn is_orderly(image: &[u8]) -> bool
-    ensures { λ r. ⌜ r ≡ orderly (now (image .entry)) ⌝ }
-{
-    let mut last = before_all();
-    let mut at = 1;
-    let mut next = records::after(image, at);
-    while at < next {
-        let key = parts::key_at(image, at);
-        if is_right(image, at, key) {
-            if in_order(last, key) {
-                last = key;
-                at = next;
-                next = records::after(image, at);
-            } else {
-                return false;
-            }
-        } else {
-            return false;
-        }
-    }
-    at == image.len()
-}
-
 // The point of a reading or an event is among the points.
-fn is_known(image: &[u8], at: usize) -> bool
-    requires { ⌜ wholeAt (now image) at ≡ true ⌝ }
-    ensures { λ r. ⌜ r ≡ knownIn (pointsOf (now (image .entry))) (recordAt (now (image .entry)) at) ⌝ }
+fn is_known(image: &[u8], key: Key) -> bool
+    ensures { λ r. ⌜ r ≡ keyKnown (pointsOf (now (image .entry))) key ⌝ }
 {
-    let key = parts::key_at(image, at);
     if key.kind < 4 {
         return true;
     }
@@ -180,21 +156,195 @@ fn is_known(image: &[u8], at: usize) -> bool
     }
 }
 
-// The second walk: each point named is among the points.
-fn all_known(image: &[u8]) -> bool
-    ensures { λ r. ⌜ r ≡ every (knownIn (pointsOf (now (image .entry)))) (recordsOf (now (image .entry))) ⌝ }
+// Any record, behind the last one: right by itself, in order, its point known.
+fn does_fit(image: &[u8], at: usize, last: Key, key: Key) -> bool
+    requires { ⌜ (wholeAt (now image) at ≡ true) × (key ≡ keyOf (recordAt (now image) at)) ⌝ }
+    ensures { λ r. ⌜ r ≡ fits (pointsOf (now (image .entry))) last (recordAt (now (image .entry)) at) ⌝ }
 {
+    if is_right(image, at, key) {
+        if in_order(last, key) {
+            return is_known(image, key);
+        }
+        return false;
+    }
+    false
+}
+
+// A reading or an event behind the last one of its kind: in order, where `later` is what the labels say, and its point known. The
+// last one's point is known, so that only another is looked up.
+fn goes_on(image: &[u8], last: Key, key: Key, later: bool) -> bool
+    requires { ⌜ (last .kind ≡ key .kind) × (keyKnown (pointsOf (now image)) last ≡ true) ⌝ }
+    ensures { λ r. ⌜ r ≡ (byKey last key later && keyKnown (pointsOf (now (image .entry))) key) ⌝ }
+{
+    if last.point.0 != key.point.0 {
+        if last.point.0 < key.point.0 {
+            return is_known(image, key);
+        }
+        return false;
+    }
+    if last.record != key.record {
+        return last.record < key.record;
+    }
+    later
+}
+
+// Whether a label does not lie before the last one, by their instants, and in one minute by their milliseconds.
+fn is_late(last: LabelB, minute: i64, label: LabelB, now: i64) -> bool
+    requires { ⌜ (minute ≡ instant (last .a)) × (now ≡ instant (label .a)) ⌝ }
+    ensures { λ r. ⌜ r ≡ not (beforeB label last) ⌝ }
+{
+    if now < minute {
+        return false;
+    }
+    if minute < now {
+        return true;
+    }
+    last.in_minute() <= label.in_minute()
+}
+
+// A reading behind the last one, whose instant is known; readings rise strictly.
+fn reading_fits(image: &[u8], last: Key, minute: i64, key: Key, moment: Moment) -> bool
+    requires { ⌜ Behind 4 (now image) last minute key × (moment ≡ momentA (key .label .a)) ⌝ }
+    ensures { λ r. ⌜ r ≡ keyFits (pointsOf (now (image .entry))) last key ⌝ }
+{
+    if moment.valid {
+        if is_reading_record(key.record) {
+            return goes_on(image, last, key, minute < moment.minute);
+        }
+        return false;
+    }
+    false
+}
+
+// An event behind the last one, whose instant is known; events may be equal.
+fn event_fits(image: &[u8], last: Key, minute: i64, key: Key, moment: Moment) -> bool
+    requires { ⌜ Behind 5 (now image) last minute key × (moment ≡ momentB (key .label)) ⌝ }
+    ensures { λ r. ⌜ r ≡ keyFits (pointsOf (now (image .entry))) last key ⌝ }
+{
+    if moment.valid {
+        if is_event_record(key.record) {
+            return goes_on(
+                image,
+                last,
+                key,
+                is_late(last.label, minute, key.label, moment.minute),
+            );
+        }
+        return false;
+    }
+    false
+}
+
+// How far a walk came: whether all that it passed fits, the place behind it and the last key.
+struct Walked {
+    fine: bool,
+    at: usize,
+    last: Key,
+}
+
+// The readings behind a reading.
+fn readings(image: &[u8], from: usize, first: Key) -> Walked
+    requires { ⌜ (first .kind ≡ 4) × Judged (now image) first ⌝ }
+    ensures { λ r. ⌜ Onward (now (image .entry)) from first r ⌝ }
+{
+    let mut at = from;
+    let mut last = first;
+    let mut minute = first.label.a.instant();
+    let mut key = parts::reading_key(image, at);
+    while key.kind == 4 {
+        let moment = key.label.a.moment();
+        if reading_fits(image, last, minute, key, moment) {
+            last = key;
+            minute = moment.minute;
+            at += 41;
+            key = parts::reading_key(image, at);
+        } else {
+            return Walked {
+                fine: false,
+                at,
+                last,
+            };
+        }
+    }
+    Walked {
+        fine: true,
+        at,
+        last,
+    }
+}
+
+// The events behind an event.
+fn events(image: &[u8], from: usize, first: Key) -> Walked
+    requires { ⌜ (first .kind ≡ 5) × Judged (now image) first ⌝ }
+    ensures { λ r. ⌜ Onward (now (image .entry)) from first r ⌝ }
+{
+    let mut at = from;
+    let mut last = first;
+    let mut minute = first.label.a.instant();
+    let mut key = parts::event_key(image, at);
+    while key.kind == 5 {
+        let moment = key.label.moment();
+        if event_fits(image, last, minute, key, moment) {
+            last = key;
+            minute = moment.minute;
+            at += 15;
+            key = parts::event_key(image, at);
+        } else {
+            return Walked {
+                fine: false,
+                at,
+                last,
+            };
+        }
+    }
+    Walked {
+        fine: true,
+        at,
+        last,
+    }
+}
+
+// The run of readings or events, if any, that goes on behind a record.
+fn run_behind(image: &[u8], at: usize, last: Key) -> Walked
+    requires { ⌜ Judged (now image) last ⌝ }
+    ensures { λ r. ⌜ Onward (now (image .entry)) at last r ⌝ }
+{
+    if last.kind == 4 {
+        return readings(image, at, last);
+    }
+    if last.kind == 5 {
+        return events(image, at, last);
+    }
+    Walked {
+        fine: true,
+        at,
+        last,
+    }
+}
+
+// The walk: each record right, neighbours in order, each point named among the points, records to the exact end.
+fn is_orderly(image: &[u8]) -> bool
+    ensures { λ r. ⌜ r ≡ orderly (now (image .entry)) ⌝ }
+{
+    let mut last = before_all();
     let mut at = 1;
     let mut next = records::after(image, at);
     while at < next {
-        if is_known(image, at) {
-            at = next;
-            next = records::after(image, at);
+        let key = parts::key_at(image, at);
+        if does_fit(image, at, last, key) {
+            let walked = run_behind(image, next, key);
+            if walked.fine {
+                last = walked.last;
+                at = walked.at;
+                next = records::after(image, at);
+            } else {
+                return false;
+            }
         } else {
             return false;
         }
     }
-    true
+    at == image.len()
 }
 
 // Whether an image is sound: at most 65,535 octets, version 1, and records as document 01 has them, to the exact end.
@@ -210,18 +360,16 @@ pub fn sound(image: &[u8]) -> bool
     if image[0] != 1 {
         return false;
     }
-    if is_orderly(image) {
-        if records::kind_at(image, 1) != 1 {
-            return false;
-        }
-        let points = parts::points(image);
-        if points < 1 {
-            return false;
-        }
-        if 8 < points {
-            return false;
-        }
-        return all_known(image);
+    if records::kind_at(image, 1) != 1 {
+        return false;
     }
-    false
+    // before the walk, so that a point is looked up among eight at most
+    let points = parts::points(image);
+    if points < 1 {
+        return false;
+    }
+    if 8 < points {
+        return false;
+    }
+    is_orderly(image)
 }

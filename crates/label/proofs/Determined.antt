@@ -11,6 +11,8 @@ use Rattle.label.proofs.LabelB.millisecond.Reads as b-millisecond
 use Rattle.label.proofs.LabelB.is_valid.Reads as b-is-valid
 use Rattle.label.proofs.LabelB.in_minute.Reads as b-in-minute
 use Rattle.label.proofs.LabelB.is_before.Reads as b-is-before
+use Rattle.label.proofs.LabelA.moment.Reads as a-moment
+use Rattle.label.proofs.LabelB.moment.Reads as b-moment
 
 is-real-one : OneResult is-real.Post
 is-real-one κs a r r′ s s′ = one-outcome
@@ -41,3 +43,9 @@ b-in-minute-one κs a r r′ s s′ = one-outcome
 
 b-is-before-one : OneResult b-is-before.Post
 b-is-before-one κs a r r′ s s′ = one-outcome
+
+a-moment-one : OneResult a-moment.Post
+a-moment-one κs a r r′ s s′ = one-outcome
+
+b-moment-one : OneResult b-moment.Post
+b-moment-one κs a r r′ s s′ = one-outcome

@@ -1,22 +1,28 @@
 -- What valid labels are, as facts instead of tests.
 -- Condition by condition. Assumes nothing.
-use Prim.Native.Nat.{_^_, _<_, _≤_}
-use mathlib.Core.Bool.{true, false, and-true}
-use mathlib.Core.Path.{_≡_}
+use Prim.Native.Nat.{ℕ, _+_, _*_, _/_, _%_, _^_, _<_, _≤_}
+use mathlib.Core.Bool.{Bool, true, false, and-true}
+use mathlib.Core.Path.{_≡_, refl, ap, sym, _∙_}
 use native.Mathlib.Omega.{arith}
 use borrow.Author.Tests.{eqb-true, leb-true, eq-eqb, le-leb}
-use lib.Dec.{ltb}
+use lib.Dec.{ltb, leb, eqb}
 use lib.IntN.{ℤ, pos}
 use lib.Signed.{mag, ltZ}
 use mir.Syntax.{w64}
 use mir.Val.{toZ, ofZ}
-use mir.Facts.{toZ-ofZ}
+use mir.Facts.{toZ-ofZ, toZ-pos}
+use Rattle.octets.specs.Bits.{bits_to_of_}
 use Rattle.octets.specs.Conditions.{holds}
+use Rattle.octets.proofs.Computed.{at-each}
 use Rattle.octets.proofs.Conditions.{holds-at}
+use Rattle.label.specs.declared.DateTime.{DateTime}
 use Rattle.label.specs.declared.LabelA.{LabelA}
 use Rattle.label.specs.declared.LabelB.{LabelB}
+use Rattle.label.specs.declared.Moment.{Moment}
+use Rattle.label.specs.Calendar.{leap, monthLength}
 use Rattle.label.specs.Time.{real, minutes}
-use Rattle.label.specs.Label.{dateTimeA, iv, tis, etiPti, hourReserved, yearReserved, validA, instant, beforeA, second, millisecond, validB, inMinute, beforeB}
+use Rattle.label.specs.Label.{dateTimeA, iv, tis, etiPti, hourReserved, yearReserved, validA, instant, beforeA, second, millisecond, validB, inMinute, beforeB, momentA, momentB}
+use Rattle.label.proofs.Time.{real-facts, real-but-day}
 
 pub record ValidA (l : LabelA) : Type 0 where
   pub real-time : real (dateTimeA l) ≡ true
@@ -43,6 +49,48 @@ pub valid-but-real : (l : LabelA) → iv l ≡ 0 → tis l ≡ 0 → etiPti l �
 unfolding validA holds
 valid-but-real l i t e h y = simp (eq-eqb _ _ i, eq-eqb _ _ t, eq-eqb _ _ e, eq-eqb _ _ h, eq-eqb _ _ y, and-true)
 
+-- the octets of a valid label: what stands above a minute, an hour, a month and a year is 0, so that these octets are small
+pub record OctetsA (l : LabelA) : Type 0 where
+  pub minute : l .minute ≤ 59
+  pub hour : l .hour % 128 ≤ 23
+  pub year : l .year ≤ 99
+  pub month-first : 1 ≤ l .month
+  pub month-last : l .month ≤ 12
+  pub day-first : 1 ≤ l .day % 32
+
+-- IV and TIS stand above the minute
+flagsAndMinute : ℕ → Bool
+flagsAndMinute octet = eqb (octet / 128 % 2 * 128 + octet / 64 % 2 * 64 + octet % 64) octet
+
+flags-and-minute : (octet : ℕ) → octet < 256 → octet / 128 % 2 * 128 + octet / 64 % 2 * 64 + octet % 64 ≡ octet
+unfolding flagsAndMinute
+flags-and-minute octet h = eqb-true _ _ (at-each flagsAndMinute 256 refl octet h)
+
+pub octets-a : (l : LabelA) → l .minute < 256 → l .hour < 256 → l .month < 256 → l .year < 256 → validA l ≡ true → OctetsA l
+unfolding dateTimeA
+octets-a l minute hour month year e =
+    let v = valid-a l e in
+    let r = real-facts (dateTimeA l) (v .real-time) in
+    record {
+      minute = omega (arith, flags-and-minute (l .minute) minute);
+      hour = omega arith;
+      year = omega arith;
+      month-first = omega arith;
+      month-last = omega arith;
+      day-first = omega arith;
+    }
+
+-- where they are, the day's end decides
+pub valid-but-day : (l : LabelA) → OctetsA l → leb (l .day % 32) (monthLength (leap (l .year)) (l .month)) ≡ validA l
+unfolding dateTimeA
+valid-but-day l o =
+    let year : bits 1 to 7 of (l .year) ≡ l .year = omega arith in
+    let month : bits 1 to 4 of (l .month) ≡ l .month = omega arith in
+    let day : bits 1 to 5 of (l .day) ≡ l .day % 32 = omega arith in
+    rw (year, month, day) at
+    (real-but-day (dateTimeA l) (omega arith) (omega arith) (omega arith) (omega arith) (omega arith) (omega arith)
+    ∙ valid-but-real l (omega arith) (omega arith) (omega arith) (omega arith) (omega arith))
+
 pub instant-valid : (l : LabelA) → validA l ≡ true → instant l ≡ pos (minutes (dateTimeA l))
 unfolding instant
 instant-valid l e = rw e
@@ -50,6 +98,15 @@ instant-valid l e = rw e
 pub instant-not : (l : LabelA) → validA l ≡ false → instant l ≡ pos 0
 unfolding instant
 instant-not l e = rw e
+
+-- no instant is negative
+pub instant-pos : (l : LabelA) → instant l ≡ pos (mag (instant l))
+unfolding instant
+instant-pos l = refl
+
+-- of a valid label, as the machine counts it
+pub instant-counted : (l : LabelA) (t : DateTime) (n : ℕ) → n < 2 ^ 63 → validA l ≡ true → t ≡ dateTimeA l → n ≡ minutes t → toZ w64 n ≡ instant l
+instant-counted l t n h v e d = toZ-pos w64 {n = n} h ∙ ap pos (d ∙ ap minutes e) ∙ sym (instant-valid l v)
 
 pub record ValidB (l : LabelB) : Type 0 where
   pub second-last : second l ≤ 59
@@ -70,6 +127,22 @@ pub valid-but-a : (l : LabelB) → second l ≤ 59 → millisecond l ≤ 999 →
 unfolding validB holds
 valid-but-a l s m = simp (le-leb _ _ s, le-leb _ _ m, and-true)
 
+-- where the label a is valid and the seconds are those of a clock, the milliseconds decide
+pub valid-but-millisecond : (l : LabelB) → validA (l .a) ≡ true → second l ≤ 59 → leb (millisecond l) 999 ≡ validB l
+unfolding validB holds
+valid-but-millisecond l e s = simp (e, le-leb _ _ s, and-true)
+
+-- validity and instant side by side
+pub moment-a : (l : LabelA) (valid : Bool) (minute : ℤ) → valid ≡ validA l → minute ≡ instant l
+    → _≡_ {A = Moment} (record { valid = valid; minute = minute }) (momentA l)
+unfolding momentA
+moment-a l valid minute e d = rw (e, d)
+
+pub moment-b : (l : LabelB) (valid : Bool) (minute : ℤ) → valid ≡ validB l → minute ≡ instant (l .a)
+    → _≡_ {A = Moment} (record { valid = valid; minute = minute }) (momentB l)
+unfolding momentB
+moment-b l valid minute e d = rw (e, d)
+
 -- of any octets, not only of a clock's
 pub second-small : (l : LabelB) → second l < 64
 unfolding second
@@ -79,11 +152,23 @@ pub millisecond-small : (l : LabelB) → millisecond l < 1024
 unfolding millisecond
 millisecond-small l = omega arith
 
+pub moment-a-facts : (l : LabelA) (m : Moment) → m ≡ momentA l → (m .valid ≡ validA l) × (m .minute ≡ instant l)
+unfolding momentA
+moment-a-facts l m e = (ap (λ (n : Moment). n .valid) e, ap (λ (n : Moment). n .minute) e)
+
+pub moment-b-facts : (l : LabelB) (m : Moment) → m ≡ momentB l → (m .valid ≡ validB l) × (m .minute ≡ instant (l .a))
+unfolding momentB
+moment-b-facts l m e = (ap (λ (n : Moment). n .valid) e, ap (λ (n : Moment). n .minute) e)
+
+-- a signed number that fits, through its bits and back
+pub back : (z : ℤ) → mag z < 2 ^ 63 → toZ w64 (ofZ w64 z) ≡ z
+back z h = toZ-ofZ {w = w64} (record { sfits = h })
+
 -- two instants as the machine compares them
 pub compared : (l l′ : LabelA) (x y : ℤ) → mag x < 2 ^ 63 → mag y < 2 ^ 63 → x ≡ instant l → y ≡ instant l′
     → ltZ (toZ w64 (ofZ w64 x)) (toZ w64 (ofZ w64 y)) ≡ beforeA l l′
 unfolding beforeA
-compared l l′ x y f g e d = rw (toZ-ofZ {w = w64} (record { sfits = f }), toZ-ofZ {w = w64} (record { sfits = g }), e, d)
+compared l l′ x y f g e d = rw (back x f, back y g, e, d)
 
 -- the three ways of b's order
 module _ (l l′ : LabelB) where

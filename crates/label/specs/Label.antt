@@ -13,6 +13,7 @@ use Rattle.octets.specs.Numbers.{lowFirst}
 use Rattle.label.specs.declared.DateTime.{DateTime}
 use Rattle.label.specs.declared.LabelA.{LabelA}
 use Rattle.label.specs.declared.LabelB.{LabelB}
+use Rattle.label.specs.declared.Moment.{Moment}
 use Rattle.label.specs.Time.{real, minutes, partsOf}
 
 -- minute in bits 1 to 6, hour in bits 1 to 5, day in bits 1 to 5, month in bits 1 to 4, year in bits 1 to 7
@@ -82,6 +83,13 @@ beforeB l l′ =
     if beforeA (l .a) (l′ .a) then true else
     if beforeA (l′ .a) (l .a) then false else
     ltb (inMinute l) (inMinute l′)
+
+-- whether a label is valid, and its instant
+unfoldable pub momentA : LabelA → Moment
+momentA l = record { valid = validA l; minute = instant l }
+
+unfoldable pub momentB : LabelB → Moment
+momentB l = record { valid = validB l; minute = instant (l .a) }
 
 -- the parts by which labels are compared on paper
 unfoldable pub partsA : LabelA → List ℕ

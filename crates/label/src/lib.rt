@@ -4,7 +4,7 @@ ghost use mathlib.Core.Bool.{true};
 ghost use Prim.Native.Nat.{_+_, _-_, _≤_, _<_};
 ghost use Rattle.label.specs.Calendar.{leap, leapDay, monthLength, daysToYear, daysOfMonths};
 ghost use Rattle.label.specs.Time.{real, minutes};
-ghost use Rattle.label.specs.Label.{dateTimeA, validA, instant, beforeA, second, millisecond, validB, inMinute, beforeB};
+ghost use Rattle.label.specs.Label.{dateTimeA, validA, instant, beforeA, second, millisecond, validB, inMinute, beforeB, momentA, momentB};
 
 // A date and time: the year's last two figures, 0 to 99 for 2000 to 2099. Any five numbers are a value; not every one is a real date.
 pub struct DateTime {
@@ -29,6 +29,12 @@ pub struct LabelB {
     pub low: u8,
     pub high: u8,
     pub a: LabelA,
+}
+
+// Whether a label is valid, and its instant. A walk over records asks for both at once.
+pub struct Moment {
+    pub valid: bool,
+    pub minute: i64,
 }
 
 impl DateTime {
@@ -85,27 +91,30 @@ impl LabelA {
     pub fn is_valid(self) -> bool
         ensures { λ r. ⌜ r ≡ validA self ⌝ }
     {
-        // IV
-        if self.minute / 128 != 0 {
+        // IV and TIS stand above the minute
+        if 59 < self.minute {
             return false;
         }
-        // TIS
-        if self.minute / 64 % 2 != 0 {
+        // the reserved bits stand between the hour and SU
+        if 23 < self.hour % 128 {
             return false;
         }
-        // the reserved bits between the hour and SU
-        if self.hour / 32 % 4 != 0 {
+        // a reserved bit stands above the year
+        if 99 < self.year {
             return false;
         }
-        // ETI and PTI
-        if self.month / 16 != 0 {
+        // ETI and PTI stand above the month
+        if 12 < self.month {
             return false;
         }
-        // the reserved bit above the year
-        if self.year / 128 != 0 {
+        if self.month < 1 {
             return false;
         }
-        self.date_time().is_real()
+        let day = self.day % 32;
+        if day < 1 {
+            return false;
+        }
+        day <= month_length(self.year, self.month)
     }
 
     // The minutes since 1 January 2000 00:00, and 0 of a label that is not valid.
@@ -116,6 +125,23 @@ impl LabelA {
             return self.date_time().minutes() as i64;
         }
         0
+    }
+
+    // Whether it is valid, and its instant.
+    pub fn moment(self) -> Moment
+        ensures { λ r. ⌜ r ≡ momentA self ⌝ }
+    {
+        if self.is_valid() {
+            let minute = self.date_time().minutes() as i64;
+            return Moment {
+                valid: true,
+                minute,
+            };
+        }
+        Moment {
+            valid: false,
+            minute: 0,
+        }
     }
 
     // Whether it lies before another label by their instants.
@@ -150,6 +176,30 @@ impl LabelB {
             return false;
         }
         self.a.is_valid()
+    }
+
+    // Whether it is valid, and its instant, which is that of its label a.
+    pub fn moment(self) -> Moment
+        ensures { λ r. ⌜ r ≡ momentB self ⌝ }
+    {
+        let a = self.a;
+        if a.is_valid() {
+            let minute = a.date_time().minutes() as i64;
+            if self.second() <= 59 {
+                return Moment {
+                    valid: self.millisecond() <= 999,
+                    minute,
+                };
+            }
+            return Moment {
+                valid: false,
+                minute,
+            };
+        }
+        Moment {
+            valid: false,
+            minute: 0,
+        }
     }
 
     // The milliseconds since its minute began.

@@ -1,15 +1,16 @@
--- A run collected octet by octet from the empty collector is the run, up to 261 octets; a longer one leaves the overfull collector.
--- By recursion on the octets that are still to come, behind those that are in. Assumes nothing.
-use Prim.Native.Nat.{ℕ, _+_, _≤_, _<_}
-use mathlib.Core.List.{List, [], _∷_, _++_, append-nil}
-use mathlib.Core.Path.{_≡_, refl, sym, ap, _∙_}
+-- Octets collected one by one stand behind those that are in, up to 261 in all; more leave the overfull collector. So a run from the empty
+-- collector on is the run. By recursion on the octets that are still to come. Assumes nothing.
+use Prim.Native.Nat.{ℕ, suc, _+_, _≤_, _<_}
+use mathlib.Core.List.{List, [], _∷_}
+use mathlib.Core.Path.{_≡_, refl, _∙_}
+use native.Mathlib.Nat.{add-zero, zero-add}
 use native.Mathlib.Omega.{arith}
 use native.Mathlib.Decide.{decLt}
 use borrow.Author.Tests.{lt-ltb, le-ltb}
-use lib.ListN.{length, drop, set, replicate, length-append, length-replicate}
-use lib.Seq.{take-at, append-snoc}
+use lib.ListN.{length, drop, set, replicate, length-replicate}
+use lib.Seq.{take-at, sets}
 use Rattle.octets.specs.Over.{over}
-use Rattle.octets.proofs.Over.{over-stores, over-length, over-after, over-first}
+use Rattle.octets.proofs.Over.{over-stores, over-first}
 use Rattle.frame.specs.Family.{Family}
 use Rattle.frame.specs.Frame.{judge}
 use Rattle.frame.proofs.Frame.{judge-long}
@@ -21,61 +22,60 @@ use Rattle.line.specs.Examining.{verdictOf}
 abbrev pub holding : List ℕ → Collector
 holding run = record { octets = over (replicate 261 0) 0 run; length = length run }
 
-pub holding-none : holding [] ≡ emptied
-unfolding over emptied
-holding-none = refl
-
 pub run-back : (run : List ℕ) → runOf (holding run) ≡ run
 unfolding runOf
 run-back run = rw (over-first (replicate 261 0) run) (take-at run (drop (length run) (replicate 261 0)) (length run) refl)
-
--- one octet more
-module _ (run : List ℕ) (x : ℕ) where
-  pub collected-one : length run < 261 → collected (holding run) x ≡ holding (run ++ (x ∷ []))
-  unfolding collected
-  collected-one h =
-      let zeros : List ℕ = replicate 261 0 in
-      let long : length zeros ≡ 261 = length-replicate {A = ℕ} 261 0 in
-      let same : length (over zeros 0 run) ≡ length zeros = over-length zeros 0 run (omega arith) in
-      let stored : set (over zeros 0 run) (length run) x ≡ over zeros 0 (run ++ (x ∷ [])) =
-      over-stores (over zeros 0 run) (length run) (x ∷ []) (omega arith) ∙ over-after zeros 0 run (x ∷ []) (length run) (omega arith) (omega arith) in
-      rw (lt-ltb (length run) 261 h, stored, length-append run (x ∷ []))
-
-  pub collected-full : 261 ≤ length run → collected (holding run) x ≡ overfull
-  unfolding collected
-  collected-full h = rw (le-ltb (length run) 261 h)
 
 pub overfull-stays : (xs : List ℕ) → collectedAll overfull xs ≡ overfull
 unfolding collectedAll collected overfull
 overfull-stays [] = refl
 overfull-stays (x ∷ xs) = overfull-stays xs
 
--- octet after octet, behind a run
-pub collected-after : (xs run : List ℕ) → length run + length xs ≤ 261 → collectedAll (holding run) xs ≡ holding (run ++ xs)
+pub collected-none : (xs : List ℕ) (c : Collector) → length xs ≡ 0 → collectedAll c xs ≡ c
 unfolding collectedAll
-collected-after [] run h = ap holding (sym (append-nil run))
-collected-after (x ∷ xs) run h =
-    ap (λ (c : Collector). collectedAll c xs) (collected-one run x (omega arith))
-    ∙ collected-after xs (run ++ (x ∷ [])) (omega (arith, length-append run (x ∷ [])))
-    ∙ ap holding (append-snoc run x xs)
+collected-none [] c h = refl
+collected-none (x ∷ xs) c h = absurd (omega arith)
 
-pub collected-over : (xs run : List ℕ) → length run ≤ 261 → 261 < length run + length xs → collectedAll (holding run) xs ≡ overfull
-unfolding collectedAll
-collected-over [] run h long = absurd (omega arith)
-collected-over (x ∷ xs) run h long =
-    by-room (λ room. collected-over xs (run ++ (x ∷ [])) (omega (arith, length-append run (x ∷ []))) (omega (arith, length-append run (x ∷ [])))) (decLt (length run) 261)
+-- an octet that finds room is stored behind those that are in
+abbrev stored : Collector → ℕ → Collector
+stored c x = record { octets = set (c .octets) (c .length) x; length = c .length + 1 }
+
+-- octet after octet
+pub collected-stores : (xs : List ℕ) (c : Collector) → c .length + length xs ≤ 261
+    → collectedAll c xs ≡ record { octets = sets (c .octets) (c .length) xs; length = c .length + length xs }
+unfolding collectedAll collected
+collected-stores [] c h = rw (add-zero (c .length))
+collected-stores (x ∷ xs) c h =
+    let further = collected-stores xs (stored c x) (omega arith) in
+    let one : c .length + 1 ≡ suc (c .length) = omega arith in
+    let both : c .length + 1 + length xs ≡ c .length + suc (length xs) = omega arith in
+    rw (lt-ltb (c .length) 261 (omega arith)) (further ∙ rw (both, one))
+
+-- so all of them stand behind, in an array that is long enough
+pub collected-after : (xs : List ℕ) (c : Collector) → length (c .octets) ≡ 261 → c .length + length xs ≤ 261
+    → collectedAll c xs ≡ record { octets = over (c .octets) (c .length) xs; length = c .length + length xs }
+collected-after xs c whole h = collected-stores xs c h ∙ rw (over-stores (c .octets) (c .length) xs (omega arith))
+
+-- and one that finds no room leaves the overfull collector
+pub collected-over : (xs : List ℕ) (c : Collector) → 0 < length xs → 261 < c .length + length xs → collectedAll c xs ≡ overfull
+unfolding collectedAll collected
+collected-over [] c some long = absurd (omega arith)
+collected-over (x ∷ xs) c some long =
+    by-room (λ room. collected-over xs (stored c x) (omega arith) (omega arith)) (decLt (c .length) 261)
   where
-    by-room : (length run < 261 → collectedAll (holding (run ++ (x ∷ []))) xs ≡ overfull) → Dec (length run < 261) → collectedAll (collected (holding run) x) xs ≡ overfull
-    by-room further (yes room) = ap (λ (c : Collector). collectedAll c xs) (collected-one run x room) ∙ further room
-    by-room further (no full) = ap (λ (c : Collector). collectedAll c xs) (collected-full run x (omega arith)) ∙ overfull-stays xs
+    by-room : (c .length < 261 → collectedAll (stored c x) xs ≡ overfull) → Dec (c .length < 261) → collectedAll (collected c x) xs ≡ overfull
+    by-room further (yes room) = rw (lt-ltb (c .length) 261 room) (further room)
+    by-room further (no full) = rw (le-ltb (c .length) 261 (omega arith)) (overfull-stays xs)
 
 -- from the empty collector on
 module _ (run : List ℕ) where
   pub collected-run : length run ≤ 261 → collectedAll emptied run ≡ holding run
-  collected-run h = rw (← holding-none) (collected-after run [] (omega arith))
+  unfolding emptied
+  collected-run h = collected-after run emptied (length-replicate {A = ℕ} 261 0) (omega arith) ∙ rw (zero-add (length run))
 
   pub collected-long : 261 < length run → collectedAll emptied run ≡ overfull
-  collected-long h = rw (← holding-none) (collected-over run [] (omega arith) (omega arith))
+  unfolding emptied
+  collected-long h = collected-over run emptied (omega arith) (omega arith)
 
 -- so nothing of the collector matters but the run
 pub collected-verdict : (k : Family) (run : List ℕ) → verdictOf k (collectedAll emptied run) ≡ judge k run

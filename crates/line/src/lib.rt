@@ -1,12 +1,15 @@
 // What comes in: the collector of octets, a run examined, the count of damaged runs.
+ghost use Prim.Native.Nat.{_+_, _-_, _≤_};
 ghost use mathlib.Core.Path.{_≡_};
 ghost use mathlib.Core.Bool.{not};
 ghost use lib.Dec.{eqb};
+ghost use lib.ListN.{length};
+ghost use Rattle.octets.specs.Over.{over};
 ghost use Rattle.frame.specs.Family.{sapr};
 ghost use Rattle.frame.specs.Frame.{judge};
 ghost use Rattle.frame.specs.Control.{offered};
 ghost use Rattle.parts.specs.Answers.{headFound};
-ghost use Rattle.line.specs.Collecting.{emptied, collected};
+ghost use Rattle.line.specs.Collecting.{emptied, overfull, collected, collectedAll};
 ghost use Rattle.line.specs.Examining.{numberOf, finding, isLink, examinedFrame, examinedVerdict, examined};
 ghost use Rattle.line.specs.Damage.{damagedAfter};
 use address::LinkAddress;
@@ -70,10 +73,53 @@ impl Collector {
             next.length = at + 1;
             return next;
         }
+        Collector::overfull()
+    }
+
+    // Octets are put in, one after the other: behind those that are in, all at once. Where one finds no room, the collector is overfull.
+    pub fn with_all(self, octets: &[u8]) -> Collector
+        ensures { λ r. ⌜ r ≡ collectedAll self (now (octets .entry)) ⌝ }
+    {
+        if octets.len() == 0 {
+            return self;
+        }
+        if room_behind(self.length) < octets.len() {
+            return Collector::overfull();
+        }
+        let kept = self.octets;
+        let at = self.length as usize;
+        Collector {
+            octets: written(kept, at, octets),
+            length: (at + octets.len()) as u16,
+        }
+    }
+
+    fn overfull() -> Collector
+        ensures { λ r. ⌜ r ≡ overfull ⌝ }
+    {
         let mut overfull = Collector::new();
         overfull.length = Collector::ROOM + 1;
         overfull
     }
+}
+
+// How many octets find room behind so many.
+fn room_behind(length: u16) -> usize
+    ensures { λ r. ⌜ r ≡ 261 - length ⌝ }
+{
+    if length < Collector::ROOM {
+        return (Collector::ROOM - length) as usize;
+    }
+    0
+}
+
+fn written(octets: [u8; 261], at: usize, top: &[u8]) -> [u8; 261]
+    requires { ⌜ at + length (now top) ≤ 261 ⌝ }
+    ensures { λ r. ⌜ r ≡ over octets at (now (top .entry)) ⌝ }
+{
+    let mut all = octets;
+    octets::put(&mut all, at, top);
+    all
 }
 
 // The same of a collector that is lent.

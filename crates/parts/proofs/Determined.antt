@@ -1,6 +1,8 @@
 -- Every public contract of this crate leaves one outcome.
 -- By its one equation. Assumes nothing.
 use Rattle.octets.proofs.Outcome.{OneResult, one-outcome}
+use Rattle.parts.proofs.reading_key.Reads as reading-key
+use Rattle.parts.proofs.event_key.Reads as event-key
 use Rattle.parts.proofs.key_at.Reads as key-at
 use Rattle.parts.proofs.head_of.Reads as head-of
 use Rattle.parts.proofs.points.Reads as points
@@ -9,6 +11,12 @@ use Rattle.parts.proofs.dates_at.Reads as dates-at
 use Rattle.parts.proofs.dates_of.Reads as dates-of
 use Rattle.parts.proofs.value_at.Reads as value-at
 use Rattle.parts.proofs.event_at.Reads as event-at
+
+reading-key-one : OneResult reading-key.Post
+reading-key-one κs a r r′ s s′ = one-outcome
+
+event-key-one : OneResult event-key.Post
+event-key-one κs a r r′ s s′ = one-outcome
 
 key-at-one : OneResult key-at.Post
 key-at-one κs a r r′ s s′ = one-outcome

@@ -6,7 +6,7 @@ use mathlib.Core.List.{List, [], _∷_}
 use mathlib.Core.Path.{_≡_, refl, ap, sym, _∙_}
 use native.Mathlib.Nat.{add-assoc}
 use native.Mathlib.Omega.{arith}
-use borrow.Author.Tests.{eqb-true, ne-eqb}
+use borrow.Author.Tests.{eqb-true, eq-eqb, ne-eqb}
 use lib.Dec.{eqb}
 use lib.ListN.{length, getD}
 use Rattle.octets.specs.Choice.{if_then_else_}
@@ -15,7 +15,7 @@ use Rattle.octets.proofs.Lists.{octetsAt, part-at}
 use Rattle.records.specs.Records.{lengthOf, kindOf, wholeAt, recordAt, kindAt}
 use Rattle.records.proofs.Records.{octet-at, part-of, kind-there, kind-none, kind-whole, kind-facts}
 use Rattle.parts.specs.Parts.{numberAt, labelAAt, labelBAt, pointOf, recordOf, readingLabel, eventLabel}
-use Rattle.parts.specs.Key.{atMinute, noLabel, key, keyOf, keyAt}
+use Rattle.parts.specs.Key.{atMinute, noLabel, key, keyOf, keyAt, keyAs}
 
 -- the number of so many octets is that of the octets there
 pub number-at : (width : ℕ) (s : List ℕ) (at : ℕ) → at + width ≤ length s → numberAt width s at ≡ highFirst (octetsAt width s at)
@@ -133,6 +133,23 @@ module _ (s : List ℕ) (at : ℕ) where
           let k : kindOf (recordAt s at) ≡ kindAt s at = kind-there s at e ∙ sym (kind-whole s at e) in
           rw (keyAt, e, k, ne-eqb (kindAt s at) 2 n₂, ne-eqb (kindAt s at) 4 n₄, ne-eqb (kindAt s at) 5 n₅)
       by-test false e = rw (keyAt, e, kind-none s at e)
+
+  pub key-at-kind : keyAt s at .kind ≡ kindAt s at
+  unfolding keyAt
+  key-at-kind = by-test (wholeAt s at) refl
+    where
+      by-test : (t : Bool) → wholeAt s at ≡ t → keyAt s at .kind ≡ kindAt s at
+      by-test true e = rw (key-whole e) (key-kind (recordAt s at) ∙ kind-there s at e ∙ sym (kind-whole s at e))
+      by-test false e = rw (keyAt, e, kind-none s at e)
+
+  -- asked for one kind
+  pub key-as : (kind : ℕ) → kindAt s at ≡ kind → keyAs kind s at ≡ keyAt s at
+  unfolding keyAs
+  key-as kind k = rw (eq-eqb (kindAt s at) kind k)
+
+  pub key-not-as : (kind : ℕ) → (kindAt s at ≡ kind → ⊥) → keyAs kind s at ≡ key 0 0 0 noLabel
+  unfolding keyAs
+  key-not-as kind n = rw (ne-eqb (kindAt s at) kind n)
 
 -- the room of a record whose kind was answered
 pub room-of : {answer : ℕ} (s : List ℕ) (at kind : ℕ) → answer ≡ kindAt s at → answer ≡ kind → 0 < kind → at + 2 + lengthOf kind ≤ length s

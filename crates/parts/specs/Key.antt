@@ -6,7 +6,7 @@ use lib.Dec.{eqb}
 use Rattle.octets.specs.Choice.{if_then_else_}
 use Rattle.label.specs.declared.LabelA.{LabelA}
 use Rattle.label.specs.declared.LabelB.{LabelB}
-use Rattle.records.specs.Records.{kindOf, wholeAt, recordAt}
+use Rattle.records.specs.Records.{kindOf, wholeAt, recordAt, kindAt}
 use Rattle.parts.specs.declared.Key.{Key}
 use Rattle.parts.specs.Parts.{pointOf, recordOf, readingLabel, eventLabel}
 
@@ -30,3 +30,7 @@ keyOf r =
 -- of the whole record at a place; kind 0 where none stands
 unfoldable pub keyAt : List ℕ → ℕ → Key
 keyAt s at = if wholeAt s at then keyOf (recordAt s at) else key 0 0 0 noLabel
+
+-- the key of the record of one kind at a place; of kind 0 where none stands
+unfoldable pub keyAs : ℕ → List ℕ → ℕ → Key
+keyAs kind s at = if eqb (kindAt s at) kind then keyAt s at else key 0 0 0 noLabel

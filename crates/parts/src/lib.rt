@@ -3,7 +3,7 @@ ghost use mathlib.Core.Path.{_≡_};
 ghost use Prim.Native.Nat.{_+_, _≤_};
 ghost use lib.ListN.{length};
 ghost use Rattle.parts.specs.Parts.{numberAt, labelAAt, labelBAt};
-ghost use Rattle.parts.specs.Key.{atMinute, noLabel, keyAt};
+ghost use Rattle.parts.specs.Key.{atMinute, noLabel, key, keyAt, keyAs};
 ghost use Rattle.parts.specs.Answers.{headFound, pointsOf, pointFound, datesAt, datesFound, valueFound, eventFound};
 use address::LinkAddress;
 use address::PointAddress;
@@ -132,6 +132,48 @@ fn no_label() -> LabelB
     })
 }
 
+// The key of what is no point, no reading and no event: it has its kind alone.
+fn other_key(kind: u8) -> Key
+    ensures { λ r. ⌜ r ≡ key kind 0 0 noLabel ⌝ }
+{
+    Key {
+        kind,
+        point: PointAddress(0),
+        record: 0,
+        label: no_label(),
+    }
+}
+
+// The key of the reading at a place; kind 0 where none stands. Small, so that a walk over readings has it inlined.
+pub fn reading_key(s: &[u8], at: usize) -> Key
+    ensures { λ r. ⌜ r ≡ keyAs 4 (now (s .entry)) at ⌝ }
+{
+    if records::kind_at(s, at) == 4 {
+        return Key {
+            kind: 4,
+            point: PointAddress(two(s, at + 3)),
+            record: s[at + 5],
+            label: at_minute(label_a(s, at + 6)),
+        };
+    }
+    other_key(0)
+}
+
+// The key of the event at a place; kind 0 where none stands.
+pub fn event_key(s: &[u8], at: usize) -> Key
+    ensures { λ r. ⌜ r ≡ keyAs 5 (now (s .entry)) at ⌝ }
+{
+    if records::kind_at(s, at) == 5 {
+        return Key {
+            kind: 5,
+            point: PointAddress(two(s, at + 3)),
+            record: s[at + 5],
+            label: label_b(s, at + 8),
+        };
+    }
+    other_key(0)
+}
+
 // The key of the whole record at a place; kind 0 where none stands.
 pub fn key_at(s: &[u8], at: usize) -> Key
     ensures { λ r. ⌜ r ≡ keyAt (now (s .entry)) at ⌝ }
@@ -146,27 +188,12 @@ pub fn key_at(s: &[u8], at: usize) -> Key
         };
     }
     if kind == 4 {
-        return Key {
-            kind,
-            point: PointAddress(two(s, at + 3)),
-            record: s[at + 5],
-            label: at_minute(label_a(s, at + 6)),
-        };
+        return reading_key(s, at);
     }
     if kind == 5 {
-        return Key {
-            kind,
-            point: PointAddress(two(s, at + 3)),
-            record: s[at + 5],
-            label: label_b(s, at + 8),
-        };
+        return event_key(s, at);
     }
-    Key {
-        kind,
-        point: PointAddress(0),
-        record: 0,
-        label: no_label(),
-    }
+    other_key(kind)
 }
 
 // Link address, date, maker and product: the first record, where it is of kind 1.

@@ -31,13 +31,13 @@ use Rattle.link.specs.declared.Link.{Link}
 use Rattle.link.specs.declared.Answered.{Answered}
 use Rattle.link.specs.Answering.{answered}
 use Rattle.card.specs.declared.Card.{Card}
-use Rattle.card.specs.State.{cardAtPowerOn, withOctet, runGone, linkedBy}
+use Rattle.card.specs.State.{cardAtPowerOn, collecting, withOctet, runGone, linkedBy}
 use Rattle.card.specs.Gap.{refusal, afterAnswer, afterExamining, gapped}
 use Rattle.card.specs.Gap as gap
 use Rattle.card.proofs.Gap.{examined-refused}
 use Rattle.tender.specs.Card.{Loan, ours, outcomeAt, seenOf}
 use Rattle.tender.specs.Condition3.{Fit, Noise, Alike, Mute, Condition3, OneOctetNoise}
-use Rattle.tender.proofs.Gaps.{collecting, fed-rested, fit-gap}
+use Rattle.tender.proofs.Gaps.{fed-rested, fit-gap}
 
 -- a run that is not empty is refused by 2, 3 or 4 only
 abbrev Damaged : Verdict → Type 0

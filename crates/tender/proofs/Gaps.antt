@@ -1,8 +1,8 @@
 -- What our card has collected when a run's octets are in, and what a fit gap then finds: the run alone decides.
--- By recursion on the run, and by the gap's tests. Assumes nothing.
+-- By what `card` says of octets put in at once, and by the gap's tests. Assumes nothing.
 use Prim.Native.Nat.{ℕ}
-use mathlib.Core.List.{List, [], _∷_}
-use mathlib.Core.Path.{_≡_, refl, ap, _∙_}
+use mathlib.Core.List.{List}
+use mathlib.Core.Path.{_≡_, sym, ap, _∙_}
 use lib.ListN.{length}
 use Rattle.history.specs.History.{fed}
 use Rattle.frame.specs.Family.{sapr}
@@ -12,20 +12,16 @@ use Rattle.line.specs.Collecting.{emptied, collectedAll}
 use Rattle.line.specs.Examining.{examined, examinedVerdict}
 use Rattle.line.proofs.Examining.{run-only}
 use Rattle.card.specs.declared.Card.{Card}
-use Rattle.card.specs.State.{withOctet}
+use Rattle.card.specs.State.{collecting}
 use Rattle.card.specs.Gap.{afterExamining}
+use Rattle.card.proofs.State.{octets-collected}
 use Rattle.card.proofs.Gap.{gap-examined}
 use Rattle.tender.specs.Card.{Loan, ours, outcomeAt}
 use Rattle.tender.specs.Condition3.{Fit}
-
--- a card with another collector
-abbrev pub collecting : Collector → Card → Card
-collecting c card = record { collector = c; link = card .link; damaged = card .damaged }
+use Rattle.tender.proofs.Card.{octets-are-ours}
 
 pub fed-card : (run : List ℕ) (card : Card) → fed ours card run ≡ collecting (collectedAll (card .collector) run) card
-unfolding fed collectedAll withOctet
-fed-card [] card = refl
-fed-card (x ∷ run) card = fed-card run (withOctet card x)
+fed-card run card = sym (octets-are-ours run card) ∙ octets-collected run card
 
 pub fed-rested : (run : List ℕ) (card : Card) → card .collector ≡ emptied → fed ours card run ≡ collecting (collectedAll emptied run) card
 fed-rested run card r = fed-card run card ∙ ap (λ (c : Collector). collecting (collectedAll c run) card) r

@@ -34,13 +34,13 @@ use Rattle.link.specs.State.{remembering, inSession, awaiting}
 use Rattle.link.specs.Answering.{linkIn, refusedBy, replied, carried, noted, userData, given, collection, counted, answered}
 use Rattle.link.proofs.Answering.{with-last}
 use Rattle.card.specs.declared.Card.{Card}
-use Rattle.card.specs.State.{runGone, linkedBy}
+use Rattle.card.specs.State.{collecting, runGone, linkedBy}
 use Rattle.card.specs.Gap.{refusal, octetsMeant, afterAnswer, afterExamining}
 use Rattle.card.specs.Gap as gap
 use Rattle.card.proofs.Gap.{answer-replied, examined-sound}
 use Rattle.tender.specs.Card.{Loan, replyIn, ours, outcomeAt, seenOf}
 use Rattle.tender.specs.Condition3.{Fit, Repeats}
-use Rattle.tender.proofs.Gaps.{collecting, rested-gap}
+use Rattle.tender.proofs.Gaps.{rested-gap}
 
 -- what an answered frame of function 3 or 11 leaves: its FCB is the last, its reply the remembered one
 record Noted (bit : ℕ) (a : Answered) : Type 0 where

@@ -1,6 +1,6 @@
 -- `span_of` answers the span that a request asks for.
 -- Part by part. Assumes nothing.
-use Rattle.choice.proofs.Chosen.{back}
+use Rattle.label.proofs.Label.{back}
 use Rattle.asked.specs.Asked.{spanOf}
 use borrow.Author.Needs.{needs}
 use Rattle.asked.proofs.span_of.Statement.{statement}

@@ -3,7 +3,7 @@
 use mathlib.Core.Path.{_∙_}
 use borrow.Author.Tests.{eq-eqb, ne-eqb}
 use Rattle.choice.specs.Keys.{keyInSpan}
-use Rattle.choice.proofs.Chosen.{back}
+use Rattle.label.proofs.Label.{back}
 use borrow.Author.Needs.{needs}
 use Rattle.choice.proofs.in_span.Statement.{statement}
 use Rattle.choice.proofs.in_span.Tie as tie

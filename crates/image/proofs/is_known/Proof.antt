@@ -1,5 +1,5 @@
--- `image::is_known` answers whether the point that the record at a place names is among the points.
--- By the record's kind, and by what was found. Assumes nothing.
+-- `image::is_known` answers whether the point that a key names is among the points.
+-- By the key's kind, and by what was found. Assumes nothing.
 use mathlib.Core.Path.{ap, sym, _∙_}
 use native.Mathlib.Omega.{arith}
 use Rattle.image.specs.Keys.{isFound}
@@ -8,11 +8,8 @@ use borrow.Author.Needs.{needs}
 use Rattle.image.proofs.is_known.Statement.{statement}
 use Rattle.image.proofs.is_known.Tie as tie
 
-key-at-requires : tie.Need-key-at-requires
-key-at-requires c κs = search needs
-
 returns : tie.Need-returns
-returns c = known-low _ _ _ (c .before .before .before .before .pre) (c .before .before .key-at .ensures) (c .if1 .taken)
+returns c = known-low _ _ (c .if1 .taken)
 
 point-of-requires : tie.Need-point-of-requires
 point-of-requires c κs = search needs
@@ -26,14 +23,13 @@ enum-told-2 c = search needs
 returns-2 : tie.Need-returns-2
 returns-2 c =
     let found = c .before .before .point-of in
-    ap isFound (sym (c .enum-told .given .1)) ∙ known-high _ _ _ (c .before .before .before .before .before .before .before .pre) (c .before .before .before .before .before .key-at .ensures) (omega arith) (found .result) (found .ensures)
+    ap isFound (sym (c .enum-told .given .1)) ∙ known-high _ _ (omega arith) (found .result) (found .ensures)
 
 returns-3 : tie.Need-returns-3
 returns-3 c =
     let found = c .before .before .point-of in
-    ap isFound (sym (c .enum-told2 .given .1)) ∙ known-high _ _ _ (c .before .before .before .before .before .before .before .pre) (c .before .before .before .before .before .key-at .ensures) (omega arith) (found .result) (found .ensures)
+    ap isFound (sym (c .enum-told2 .given .1)) ∙ known-high _ _ (omega arith) (found .result) (found .ensures)
 
 pub is-known-spec : {M : Type 1} → statement M
 is-known-spec =
-    tie.close
-    (tie.spec key-at-requires returns point-of-requires enum-told enum-told-2 returns-2 returns-3)
+    tie.close (tie.spec returns point-of-requires enum-told enum-told-2 returns-2 returns-3)

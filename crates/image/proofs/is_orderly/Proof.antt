@@ -1,7 +1,7 @@
--- `image::is_orderly` answers whether each record is right, neighbours are in order, and records reach the exact end.
+-- `image::is_orderly` answers whether each record is right, neighbours are in order, the points named are known, and records reach the end.
 -- The loop's invariant: what is left of the test from here on, behind the last key, is the whole test. Assumes nothing.
 use Prim.Native.Nat.{_-_}
-use mathlib.Core.Path.{_≡_, sym, ap, _∙_}
+use mathlib.Core.Path.{_≡_, _∙_}
 use borrow.Author.Needs.{needs}
 use native.Mathlib.Omega.{arith}
 use lib.ListN.{length}
@@ -9,8 +9,9 @@ use Rattle.octets.proofs.Choice.{told}
 use Rattle.records.specs.Records.{placeAfter}
 use Rattle.records.proofs.Records.{stands, stands-not, after-within}
 use Rattle.parts.proofs.Parts.{key-whole}
-use Rattle.image.specs.Keys.{keysInOrder, orderly}
-use Rattle.image.proofs.Keys.{left, left-end, left-step, left-wrong, left-unordered, left-all}
+use Rattle.image.specs.Keys.{orderly, left}
+use Rattle.image.proofs.Keys.{left-end, left-stop, left-all}
+use Rattle.image.proofs.Run.{judged, left-behind, walked-fine, walked-stopped}
 use Rattle.image.proofs.is_orderly.Statement.{statement}
 use Rattle.image.proofs.is_orderly.Tie as tie
 
@@ -32,31 +33,38 @@ loop-holds c = (c .after .ensures, rw (c .before .before-all .ensures) (left-all
 key-at-requires : tie.Need-key-at-requires Inv-loop μ-loop
 key-at-requires c κs = search needs
 
-is-right-requires : tie.Need-is-right-requires Inv-loop μ-loop
-is-right-requires c κs =
+does-fit-requires : tie.Need-does-fit-requires Inv-loop μ-loop
+does-fit-requires c κs =
     let l = c .before .before .loop in
     let w = stands _ _ (l .inv .0) (c .before .loop-test .taken) in
     (w, c .key-at .ensures ∙ key-whole _ _ w)
 
-in-order-requires : tie.Need-in-order-requires Inv-loop μ-loop
-in-order-requires c κs = search needs
+run-behind-requires : tie.Need-run-behind-requires Inv-loop μ-loop
+run-behind-requires c κs =
+    let l = c .before .before .before .before .loop in
+    let w = stands _ _ (l .inv .0) (c .before .before .before .loop-test .taken) in
+    judged _ _ _ _ w (c .before .before .key-at .ensures ∙ key-whole _ _ w) (told (c .before .does-fit .ensures) (c .if1 .taken))
 
 after-requires-2 : tie.Need-after-requires-2 Inv-loop μ-loop
 after-requires-2 c κs = search needs
 
 loop-less : tie.Need-loop-less Inv-loop μ-loop
 loop-less c =
-    let l = c .before .before .before .before .before .before .before .loop in
-    omega (arith, l .inv .0, after-within _ _ (stands _ _ (l .inv .0) (c .before .before .before .before .before .before .loop-test .taken)))
+    let l = c .before .before .before .before .before .before .before .before .loop in
+    let w = stands _ _ (l .inv .0) (c .before .before .before .before .before .before .before .loop-test .taken) in
+    omega (arith, l .inv .0, after-within _ _ w, c .before .before .before .run-behind .ensures .further)
 
 loop-again : tie.Need-loop-again Inv-loop μ-loop
 loop-again c =
-    let l = c .before .before .before .before .before .before .before .loop in
-    let w = stands _ _ (l .inv .0) (c .before .before .before .before .before .before .loop-test .taken) in
-    let k = c .before .before .before .before .before .key-at .ensures ∙ key-whole _ _ w in
-    let ordered = ap (keysInOrder (l .last)) (sym k) ∙ told (c .before .before .in-order .ensures) (c .before .if2 .taken) in (
+    let l = c .before .before .before .before .before .before .before .before .loop in
+    let w = stands _ _ (l .inv .0) (c .before .before .before .before .before .before .before .loop-test .taken) in
+    let k = c .before .before .before .before .before .before .key-at .ensures ∙ key-whole _ _ w in
+    let walk = c .before .before .before .run-behind in (
       c .after2 .ensures,
-      rw (l .inv .0, k) (left-step _ _ _ w (told (c .before .before .before .before .is-right .ensures) (c .before .before .before .if1 .taken)) ordered ∙ l .inv .1),
+      walked-fine (walk .result) (walk .ensures) (c .before .before .if2 .taken)
+          ∙ left-behind _ _ _ _ w k (l .inv .0)
+          (told (c .before .before .before .before .before .does-fit .ensures) (c .before .before .before .before .if1 .taken))
+          ∙ l .inv .1,
     )
 
 returns : tie.Need-returns Inv-loop μ-loop
@@ -64,12 +72,15 @@ returns c =
     let l = c .before .before .before .before .before .before .loop in
     let w = stands _ _ (l .inv .0) (c .before .before .before .before .before .loop-test .taken) in
     let k = c .before .before .before .before .key-at .ensures ∙ key-whole _ _ w in
-    left-unordered _ _ _ w (ap (keysInOrder (l .last)) (sym k) ∙ told (c .before .in-order .ensures) (c .if2 .left)) ∙ l .inv .1
+    let walk = c .before .run-behind in
+    walked-stopped (walk .result) (walk .ensures) (c .if2 .left)
+    ∙ left-behind _ _ _ _ w k (l .inv .0) (told (c .before .before .before .does-fit .ensures) (c .before .before .if1 .taken)) ∙ l .inv .1
 
 returns-2 : tie.Need-returns-2 Inv-loop μ-loop
 returns-2 c =
     let l = c .before .before .before .before .loop in
-    left-wrong _ _ _ (stands _ _ (l .inv .0) (c .before .before .before .loop-test .taken)) (told (c .before .is-right .ensures) (c .if1 .left)) ∙ l .inv .1
+    let w = stands _ _ (l .inv .0) (c .before .before .before .loop-test .taken) in
+    left-stop _ _ _ w (told (c .before .does-fit .ensures) (c .if1 .left)) ∙ l .inv .1
 
 returns-3 : tie.Need-returns-3 Inv-loop μ-loop
 returns-3 c =
@@ -86,8 +97,8 @@ is-orderly-spec =
     after-requires
     loop-holds
     key-at-requires
-    is-right-requires
-    in-order-requires
+    does-fit-requires
+    run-behind-requires
     after-requires-2
     loop-less
     loop-again

@@ -1,10 +1,10 @@
 -- `image::sound` answers whether an image is sound.
--- A rule that is broken refutes it; where all others hold, the points named decide. Assumes nothing.
+-- A rule that is broken refutes it; where the others hold, the walk decides. Assumes nothing.
 use mathlib.Core.Path.{sym, _∙_}
 use native.Mathlib.Omega.{arith}
 use lib.ListN.{List·getD-eq-default}
-use Rattle.octets.proofs.Choice.{told, refuted, not-both}
-use Rattle.image.proofs.Soundness.{rules, rules-orderly, no-head-unsound, points-counted, known-decides}
+use Rattle.octets.proofs.Choice.{refuted}
+use Rattle.image.proofs.Soundness.{rules, has-head, points-counted, walk-decides}
 use borrow.Author.Needs.{needs}
 use Rattle.image.proofs.sound.Statement.{statement}
 use Rattle.image.proofs.sound.Tie as tie
@@ -21,40 +21,30 @@ shared-slice-read-if3 c = search needs
 returns-3 : tie.Need-returns-3
 returns-3 c = refuted _ (λ e. c .if3 .taken (rules _ e .version))
 
-is-orderly-requires : tie.Need-is-orderly-requires
-is-orderly-requires c κs = search needs
-
 kind-at-requires : tie.Need-kind-at-requires
 kind-at-requires c κs = search needs
 
 returns-4 : tie.Need-returns-4
-returns-4 c = no-head-unsound _ (told (c .before .before .before .is-orderly .ensures) (c .before .before .if4 .taken)) (λ e. c .if5 .taken (c .before .kind-at .ensures ∙ e))
+returns-4 c = refuted _ (λ e. c .if4 .taken (c .before .kind-at .ensures ∙ has-head _ (rules _ e)))
 
 points-requires : tie.Need-points-requires
 points-requires c κs = search needs
 
 returns-5 : tie.Need-returns-5
-returns-5 c =
-    let n = points-counted _ (told (c .before .before .before .before .before .is-orderly .ensures) (c .before .before .before .before .if4 .taken)) (sym (c .before .before .before .kind-at .ensures) ∙ c .before .before .if5 .left) in
-    refuted _ (λ e. omega (arith, c .before .points .ensures, rules _ e .some-point))
+returns-5 c = refuted _ (λ e. let s = rules _ e in omega (arith, c .before .points .ensures, points-counted _ s, s .some-point))
 
 returns-6 : tie.Need-returns-6
-returns-6 c =
-    let n = points-counted _ (told (c .before .before .before .before .before .before .is-orderly .ensures) (c .before .before .before .before .before .if4 .taken)) (sym (c .before .before .before .before .kind-at .ensures) ∙ c .before .before .before .if5 .left) in
-    refuted _ (λ e. omega (arith, c .before .before .points .ensures, rules _ e .few-points))
+returns-6 c = refuted _ (λ e. let s = rules _ e in omega (arith, c .before .before .points .ensures, points-counted _ s, s .few-points))
 
-all-known-requires : tie.Need-all-known-requires
-all-known-requires c κs = search needs
+is-orderly-requires : tie.Need-is-orderly-requires
+is-orderly-requires c κs = search needs
 
 returns-7 : tie.Need-returns-7
 returns-7 c =
     let n = c .before .before .before .points .ensures in
-    c .all-known .ensures
-    ∙ known-decides _ (told (c .before .before .before .before .before .before .before .is-orderly .ensures) (c .before .before .before .before .before .before .if4 .taken)) (sym (c .before .before .before .before .before .kind-at .ensures) ∙ c .before .before .before .before .if5 .left)
-    (omega arith) (c .before .before .before .before .before .before .before .before .if3 .left) (omega arith) (omega arith)
-
-returns-8 : tie.Need-returns-8
-returns-8 c = refuted _ (λ e. not-both (told (c .before .is-orderly .ensures) (c .if4 .left)) (rules-orderly _ (rules _ e)))
+    c .is-orderly .ensures
+    ∙ walk-decides _ (omega arith) (c .before .before .before .before .before .before .if3 .left)
+    (sym (c .before .before .before .before .before .kind-at .ensures) ∙ c .before .before .before .before .if4 .left) (omega arith) (omega arith)
 
 pub sound-spec : {M : Type 1} → statement M
 sound-spec =
@@ -64,12 +54,10 @@ sound-spec =
     returns-2
     shared-slice-read-if3
     returns-3
-    is-orderly-requires
     kind-at-requires
     returns-4
     points-requires
     returns-5
     returns-6
-    all-known-requires
-    returns-7
-    returns-8)
+    is-orderly-requires
+    returns-7)

@@ -8,9 +8,12 @@ use Rattle.card.proofs.Card.octet.Tie as tie
 with-requires : tie.Need-with-requires
 with-requires c κs = search needs
 
+collecting-requires : tie.Need-collecting-requires
+collecting-requires c κs = search needs
+
 returns : tie.Need-returns
 unfolding withOctet
-returns c = rw (c .with .ensures)
+returns c = rw (c .collecting .ensures, c .before .with .ensures)
 
 pub octet-spec : {M : Type 1} → statement M
-octet-spec = tie.close (tie.spec with-requires returns)
+octet-spec = tie.close (tie.spec with-requires collecting-requires returns)

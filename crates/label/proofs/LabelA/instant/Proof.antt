@@ -1,12 +1,9 @@
 -- `LabelA::instant` answers the instant, and 0 of a label that is not valid.
 -- By the two cases of validity. Assumes nothing.
-use mathlib.Core.Path.{ap, _∙_}
-use lib.IntN.{pos}
-use mir.Syntax.{w64}
-use mir.Facts.{toZ-pos}
+use mathlib.Core.Path.{ap, sym, _∙_}
 use Rattle.octets.proofs.Choice.{told}
-use Rattle.label.specs.Time.{real, minutes}
-use Rattle.label.proofs.Label.{valid-a, instant-valid, instant-not}
+use Rattle.label.specs.Time.{real}
+use Rattle.label.proofs.Label.{valid-a, instant-counted, instant-not}
 use borrow.Author.Needs.{needs}
 use Rattle.label.proofs.LabelA.instant.Statement.{statement}
 use Rattle.label.proofs.LabelA.instant.Tie as tie
@@ -26,11 +23,10 @@ cast-result c = search needs
 returns : tie.Need-returns
 returns c =
     let valid = told (c .before .before .before .is-valid .ensures) (c .before .before .if1 .taken) in
-    rw (toZ-pos w64 {n = c .minutes .result} (search needs), instant-valid _ valid)
-    (ap pos (c .minutes .ensures ∙ ap minutes (c .before .date-time .ensures)))
+    instant-counted _ _ (c .minutes .result) (search needs) valid (c .before .date-time .ensures) (c .minutes .ensures)
 
 returns-2 : tie.Need-returns-2
-returns-2 c = rw (instant-not _ (told (c .before .is-valid .ensures) (c .if1 .left)))
+returns-2 c = sym (instant-not _ (told (c .before .is-valid .ensures) (c .if1 .left)))
 
 pub instant-spec : {M : Type 1} → statement M
 instant-spec =

@@ -1,0 +1,2 @@
+pub mod Input
+mod Determined

@@ -1,0 +1,83 @@
+-- How the programs' inputs are taken apart. Each definition is over the octets read so far: how many the part has as far as these tell, and
+-- what the part is when no more come. Document 01, "The printing program", and the description of the driving face.
+-- Assumes nothing.
+use Prim.Native.Nat.{ℕ, _+_}
+use mathlib.Core.Bool.{not}
+use mathlib.Core.List.{List, [], _∷_}
+use lib.Dec.{ltb, eqb}
+use lib.ListN.{length, take, drop, getD, replicate}
+use Rattle.octets.specs.Choice.{if_then_else_}
+use Rattle.octets.specs.Numbers.{highFirst}
+use Rattle.octets.specs.Over.{over}
+use Rattle.image.specs.Image.{soundImage}
+use Rattle.input.specs.declared.Head.{Head}
+use Rattle.input.specs.declared.Head.the-variants as head
+use Rattle.input.specs.declared.Run.{Run}
+use Rattle.input.specs.declared.Run.the-variants as run
+use Rattle.input.specs.declared.Call.{Call}
+use Rattle.input.specs.declared.Call.the-variants as call
+
+-- the big-endian lengths at an index
+unfoldable pub lengthOf2 : List ℕ → ℕ → ℕ
+lengthOf2 read at = highFirst (getD read at 0 ∷ getD read (at + 1) 0 ∷ [])
+
+unfoldable pub lengthOf3 : List ℕ → ℕ → ℕ
+lengthOf3 read at = highFirst (getD read at 0 ∷ getD read (at + 1) 0 ∷ getD read (at + 2) 0 ∷ [])
+
+-- the head: version 1, 2-octet image length, image, 7 clock octets; of another version only the version is asked for
+unfoldable pub headSize : List ℕ → ℕ
+headSize read =
+    if ltb (length read) 1 then 1 else
+    if not (eqb (getD read 0 0) 1) then 1 else
+    if ltb (length read) 3 then 3 else
+    10 + lengthOf2 read 1
+
+unfoldable pub imageIn : List ℕ → List ℕ
+imageIn read = take (lengthOf2 read 1) (drop 3 read)
+
+unfoldable pub clockIn : List ℕ → List ℕ
+clockIn read = over (replicate 7 0) 0 (take 7 (drop (3 + lengthOf2 read 1) read))
+
+-- empty input is cut; then other version, cut before the clock's end, image unsound
+unfoldable pub headOf : List ℕ → Head
+headOf read =
+    if ltb (length read) 1 then head.Cut else
+    if not (eqb (getD read 0 0) 1) then head.Version else
+    if ltb (length read) (headSize read) then head.Cut else
+    if not (soundImage (imageIn read)) then head.Image else
+    head.Whole
+
+-- a run: a 2-octet length and octets
+unfoldable pub runSize : List ℕ → ℕ
+runSize read = if ltb (length read) 2 then 2 else 2 + lengthOf2 read 0
+
+unfoldable pub runOf : List ℕ → Run
+runOf read =
+    if ltb (length read) 1 then run.End else
+    if ltb (length read) (runSize read) then run.Cut else
+    run.Whole
+
+-- a call: a letter, and what follows it: I, C, B, O or G
+unfoldable pub callSize : List ℕ → ℕ
+callSize read =
+    if eqb (getD read 0 0) 73 then (if ltb (length read) 4 then 4 else if ltb 65600 (lengthOf3 read 1) then 4 else 4 + lengthOf3 read 1) else
+    if eqb (getD read 0 0) 67 then 8 else
+    if eqb (getD read 0 0) 66 then 3 else
+    if eqb (getD read 0 0) 79 then (if ltb (length read) 3 then 3 else 3 + lengthOf2 read 1) else
+    1
+
+-- what a whole call is: an unknown letter, an I over 65,600 and a B over 300 are none
+unfoldable pub wholeCall : List ℕ → Call
+wholeCall read =
+    if eqb (getD read 0 0) 73 then (if ltb 65600 (lengthOf3 read 1) then call.Wrong else call.Image) else
+    if eqb (getD read 0 0) 67 then call.Clock else
+    if eqb (getD read 0 0) 66 then (if ltb 300 (lengthOf2 read 1) then call.Wrong else call.Room) else
+    if eqb (getD read 0 0) 79 then call.Octets else
+    if eqb (getD read 0 0) 71 then call.Gap else
+    call.Wrong
+
+unfoldable pub callOf : List ℕ → Call
+callOf read =
+    if ltb (length read) 1 then call.End else
+    if ltb (length read) (callSize read) then call.Cut else
+    wholeCall read

@@ -1,0 +1,194 @@
+// How the programs' inputs are taken apart: functions on the octets read so far, so that a program only reads, calls and writes.
+ghost use mathlib.Core.Path.{_≡_};
+ghost use Rattle.input.specs.Input.{lengthOf2, lengthOf3, headSize, imageIn, clockIn, headOf, runSize, runOf, callSize, wholeCall, callOf};
+
+// What stands before the runs: another version, input that is cut, an unsound image, or all in order.
+pub enum Head {
+    Version,
+    Cut,
+    Image,
+    Whole,
+}
+
+// What follows: no more runs, one that is cut, or one that is whole.
+pub enum Run {
+    End,
+    Cut,
+    Whole,
+}
+
+// A call of the driving program: none is left, one that is cut, one that is none, or one of the five.
+pub enum Call {
+    End,
+    Cut,
+    Wrong,
+    Image,
+    Clock,
+    Room,
+    Octets,
+    Gap,
+}
+
+// A 2-octet length, big-endian.
+pub fn length_of_2(read: &[u8], at: u8) -> u16
+    ensures { λ r. ⌜ r ≡ lengthOf2 (now (read .entry)) at ⌝ }
+{
+    let at = at as usize;
+    octets::high_first_2(octets::octet_at(read, at), octets::octet_at(read, at + 1))
+}
+
+// A 3-octet length, big-endian.
+fn length_of_3(read: &[u8], at: u8) -> u32
+    ensures { λ r. ⌜ r ≡ lengthOf3 (now (read .entry)) at ⌝ }
+{
+    let at = at as usize;
+    octets::high_first_4(
+        0,
+        octets::octet_at(read, at),
+        octets::octet_at(read, at + 1),
+        octets::octet_at(read, at + 2),
+    )
+}
+
+// How many octets the head has, as far as those read tell.
+pub fn head_size(read: &[u8]) -> usize
+    ensures { λ r. ⌜ r ≡ headSize (now (read .entry)) ⌝ }
+{
+    if read.len() < 1 {
+        return 1;
+    }
+    if octets::octet_at(read, 0) == 1 {
+        if read.len() < 3 {
+            return 3;
+        }
+        return 10 + length_of_2(read, 1) as usize;
+    }
+    1
+}
+
+pub fn image_in(read: &[u8]) -> &[u8]
+    ensures { λ r. ⌜ now r ≡ imageIn (now (read .entry)) ⌝ }
+{
+    octets::part(read, 3, length_of_2(read, 1) as usize)
+}
+
+pub fn clock_in(read: &[u8]) -> [u8; 7]
+    ensures { λ r. ⌜ r ≡ clockIn (now (read .entry)) ⌝ }
+{
+    let mut clock = [0; 7];
+    octets::put(
+        &mut clock,
+        0,
+        octets::part(read, 3 + length_of_2(read, 1) as usize, 7),
+    );
+    clock
+}
+
+// What a head is, when no more octets come.
+pub fn judge_head(read: &[u8]) -> Head
+    ensures { λ r. ⌜ r ≡ headOf (now (read .entry)) ⌝ }
+{
+    if read.len() < 1 {
+        return Head::Cut;
+    }
+    if octets::octet_at(read, 0) == 1 {
+        if read.len() < head_size(read) {
+            return Head::Cut;
+        }
+        if image::sound(image_in(read)) {
+            return Head::Whole;
+        }
+        return Head::Image;
+    }
+    Head::Version
+}
+
+pub fn run_size(read: &[u8]) -> usize
+    ensures { λ r. ⌜ r ≡ runSize (now (read .entry)) ⌝ }
+{
+    if read.len() < 2 {
+        return 2;
+    }
+    2 + length_of_2(read, 0) as usize
+}
+
+pub fn judge_run(read: &[u8]) -> Run
+    ensures { λ r. ⌜ r ≡ runOf (now (read .entry)) ⌝ }
+{
+    if read.len() < 1 {
+        return Run::End;
+    }
+    if read.len() < run_size(read) {
+        return Run::Cut;
+    }
+    Run::Whole
+}
+
+pub fn call_size(read: &[u8]) -> usize
+    ensures { λ r. ⌜ r ≡ callSize (now (read .entry)) ⌝ }
+{
+    let letter = octets::octet_at(read, 0);
+    if letter == b'I' {
+        if read.len() < 4 {
+            return 4;
+        }
+        let many = length_of_3(read, 1);
+        if 65600 < many {
+            return 4;
+        }
+        return 4 + many as usize;
+    }
+    if letter == b'C' {
+        return 8;
+    }
+    if letter == b'B' {
+        return 3;
+    }
+    if letter == b'O' {
+        if read.len() < 3 {
+            return 3;
+        }
+        return 3 + length_of_2(read, 1) as usize;
+    }
+    1
+}
+
+fn whole_call(read: &[u8]) -> Call
+    ensures { λ r. ⌜ r ≡ wholeCall (now (read .entry)) ⌝ }
+{
+    let letter = octets::octet_at(read, 0);
+    if letter == b'I' {
+        if 65600 < length_of_3(read, 1) {
+            return Call::Wrong;
+        }
+        return Call::Image;
+    }
+    if letter == b'C' {
+        return Call::Clock;
+    }
+    if letter == b'B' {
+        if 300 < length_of_2(read, 1) {
+            return Call::Wrong;
+        }
+        return Call::Room;
+    }
+    if letter == b'O' {
+        return Call::Octets;
+    }
+    if letter == b'G' {
+        return Call::Gap;
+    }
+    Call::Wrong
+}
+
+pub fn judge_call(read: &[u8]) -> Call
+    ensures { λ r. ⌜ r ≡ callOf (now (read .entry)) ⌝ }
+{
+    if read.len() < 1 {
+        return Call::End;
+    }
+    if read.len() < call_size(read) {
+        return Call::Cut;
+    }
+    whole_call(read)
+}

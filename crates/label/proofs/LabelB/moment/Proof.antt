@@ -1,0 +1,62 @@
+-- `LabelB::moment` answers whether a label b is valid, and its instant.
+-- The instant by the two cases of its label a; a clock's seconds and milliseconds decide what is left. Assumes nothing.
+use mathlib.Core.Path.{ap, sym, _∙_}
+use native.Mathlib.Omega.{arith}
+use lib.Dec.{leb}
+use Rattle.octets.proofs.Choice.{told, refuted, not-both}
+use Rattle.label.specs.Time.{real}
+use Rattle.label.proofs.Label.{valid-a, valid-b, instant-counted, instant-not, valid-but-millisecond, moment-b}
+use borrow.Author.Needs.{needs}
+use Rattle.label.proofs.LabelB.moment.Statement.{statement}
+use Rattle.label.proofs.LabelB.moment.Tie as tie
+
+is-valid-requires : tie.Need-is-valid-requires
+is-valid-requires c κs = search needs
+
+date-time-requires : tie.Need-date-time-requires
+date-time-requires c κs = search needs
+
+minutes-requires : tie.Need-minutes-requires
+minutes-requires c κs = ap real (c .date-time .ensures) ∙ valid-a _ (told (c .before .before .is-valid .ensures) (c .before .if1 .taken)) .real-time
+
+cast-minute : tie.Need-cast-minute
+cast-minute c = search needs
+
+second-requires : tie.Need-second-requires
+second-requires c κs = search needs
+
+millisecond-requires : tie.Need-millisecond-requires
+millisecond-requires c κs = search needs
+
+returns : tie.Need-returns
+returns c =
+    let minutes = c .before .before .before .minutes in
+    let valid = told (c .before .before .before .before .before .before .is-valid .ensures) (c .before .before .before .before .before .if1 .taken) in
+    moment-b _ _ _ (ap (λ n. leb n 999) (c .millisecond .ensures) ∙ valid-but-millisecond _ valid (search needs))
+    (instant-counted _ _ (minutes .result) (search needs) valid (c .before .before .before .before .date-time .ensures) (minutes .ensures))
+
+returns-2 : tie.Need-returns-2
+returns-2 c =
+    let minutes = c .before .before .minutes in
+    let valid = told (c .before .before .before .before .before .is-valid .ensures) (c .before .before .before .before .if1 .taken) in
+    moment-b _ _ _ (refuted _ (λ e. let h = valid-b _ e in omega arith))
+    (instant-counted _ _ (minutes .result) (search needs) valid (c .before .before .before .date-time .ensures) (minutes .ensures))
+
+returns-3 : tie.Need-returns-3
+returns-3 c =
+    let none = told (c .before .is-valid .ensures) (c .if1 .left) in
+    moment-b _ _ _ (refuted _ (λ e. not-both none (valid-b _ e .valid))) (sym (instant-not _ none))
+
+pub moment-spec : {M : Type 1} → statement M
+moment-spec =
+    tie.close
+    (tie.spec
+    is-valid-requires
+    date-time-requires
+    minutes-requires
+    cast-minute
+    second-requires
+    millisecond-requires
+    returns
+    returns-2
+    returns-3)

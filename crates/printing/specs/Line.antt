@@ -1,0 +1,58 @@
+-- The lines that the programs write, and what writing one into a lent buffer answers and leaves.
+-- Assumes nothing.
+use Prim.Native.Nat.{ℕ}
+use mathlib.Core.List.{List, [], _∷_, _++_}
+use mathlib.Core.Path.{_≡_}
+use lib.ListN.{length, take}
+use Rattle.octets.specs.Choice.{if_then_else_}
+use Rattle.octets.specs.Over.{over, fitsAt}
+use Rattle.carrying.specs.declared.Order.{Order}
+use Rattle.carrying.specs.declared.Order.the-variants.{Nothing, Clock, Dates}
+use Rattle.carrying.specs.Carrying.{timeOctets}
+use Rattle.printing.specs.Text.{decimal, pairs}
+
+-- what stands between, what stands for nothing, what ends a line
+abbrev pub space : List ℕ
+space = 32 ∷ []
+
+abbrev pub dash : List ℕ
+dash = 45 ∷ []
+
+abbrev pub newline : List ℕ
+newline = 10 ∷ []
+
+-- an order: -, clock or dates
+abbrev pub word : Order → List ℕ
+word Nothing = dash
+word Clock = 99 ∷ 108 ∷ 111 ∷ 99 ∷ 107 ∷ []
+word Dates = 100 ∷ 97 ∷ 116 ∷ 101 ∷ 115 ∷ []
+
+-- two numbers and an order: what both lines begin with
+unfoldable pub beginning : ℕ → ℕ → Order → List ℕ
+beginning first second order = decimal first ++ space ++ decimal second ++ space ++ word order
+
+-- a reply: each pair behind a space, or -
+abbrev pub replyText : List ℕ → List ℕ
+replyText [] = space ++ dash
+replyText (octet ∷ rest) = pairs space (octet ∷ rest)
+
+-- the printing program's line: run number, result number, order, reply
+unfoldable pub lineOf : ℕ → ℕ → Order → List ℕ → List ℕ
+lineOf number result order reply = beginning number result order ++ replyText reply ++ newline
+
+-- the octets of an order: of ten the first 7 for the clock and all for the dates, or -
+abbrev pub timeText : Order → List ℕ → List ℕ
+timeText Nothing time = dash
+timeText Clock time = pairs [] (take (timeOctets Clock) time)
+timeText Dates time = pairs [] (take (timeOctets Dates) time)
+
+-- the driving program's line: number, length, order, the order's octets, the count of damaged runs, the buffer
+unfoldable pub gapLine : ℕ → ℕ → Order → List ℕ → ℕ → List ℕ → List ℕ
+gapLine number count order time damaged buffer =
+    beginning number count order ++ space ++ timeText order time ++ space ++ decimal damaged ++ space ++ pairs [] buffer ++ newline
+
+-- `Lined under text count left`: a line that fits stands in the first octets of the buffer, the rest unchanged, and its length is answered;
+-- else the answer is 0, and the buffer is as it was
+pub record Lined (under text : List ℕ) (count : ℕ) (left : List ℕ) : Type 0 where
+  pub counts : count ≡ (if fitsAt under 0 text then length text else 0)
+  pub leaves : left ≡ (if fitsAt under 0 text then over under 0 text else under)

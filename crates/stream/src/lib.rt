@@ -1,0 +1,123 @@
+// Octets from standard input by the block, and text to standard output. One read brings what is there, which may be many runs; none is
+// made while enough octets stand in the window, and none waits for more than is asked for.
+ghost use Prim.Native.Nat.{_+_, _-_, _≤_};
+ghost use mathlib.Core.Path.{_≡_};
+ghost use lib.ListN.{length, take, drop};
+ghost use Rattle.octets.specs.Over.{over};
+ghost use Rattle.stream.specs.Window.{countOf, seenIn, takenOf, hasIn, Kept, Filled};
+
+// What has been read and not taken yet: the octets of a space from one index to another.
+pub struct Window {
+    pub from: usize,
+    pub to: usize,
+}
+
+fn count(window: Window) -> usize
+    ensures { λ r. ⌜ r ≡ countOf window ⌝ }
+{
+    if window.from < window.to {
+        return window.to - window.from;
+    }
+    0
+}
+
+// The octets in the window, or as many of them as the space has.
+pub fn seen(space: &[u8], window: Window) -> &[u8]
+    ensures { λ r. ⌜ now r ≡ seenIn (now (space .entry)) window ⌝ }
+{
+    octets::part(space, window.from, count(window))
+}
+
+// So many octets are taken, or as many as there are.
+pub fn taken(window: Window, many: usize) -> Window
+    ensures { λ r. ⌜ r ≡ takenOf window many ⌝ }
+{
+    let count = count(window);
+    if many < count {
+        return Window {
+            from: window.from + many,
+            to: window.to,
+        };
+    }
+    Window {
+        from: window.from + count,
+        to: window.to,
+    }
+}
+
+// So many octets from an index on are moved to the front.
+fn to_front(space: &mut [u8], from: usize, many: usize)
+    requires { ⌜ many ≤ length (now space) - from ⌝ }
+    ensures { λ _. ⌜ now (space .exit) ≡ over (now (space .entry)) 0 (take many (drop from (now (space .entry)))) ⌝ }
+{
+    let mut i = 0;
+    while i < many {
+        space[i] = space[from + i];
+        i += 1;
+    }
+}
+
+// Whether so many octets stand in a window of the space.
+fn has(space: &[u8], window: Window, size: usize) -> bool
+    ensures { λ r. ⌜ r ≡ hasIn (now (space .entry)) window size ⌝ }
+{
+    if space.len() < window.to {
+        return false;
+    }
+    if window.to < window.from {
+        return false;
+    }
+    if window.to - window.from < size {
+        return false;
+    }
+    true
+}
+
+// One read behind the first so many octets.
+fn read_behind(space: &mut [u8], have: usize) -> usize
+    requires { ⌜ have ≤ length (now space) ⌝ }
+    ensures { λ r. ⌜ (have + r ≤ length (now (space .entry))) × Kept have (now (space .entry)) (now (space .exit)) ⌝ }
+{
+    let got = libc::read(0, &mut space[have..]);
+    io::count(got, &space[have..])
+}
+
+// Reads behind the first so many octets, until `size` stand there, the space is full, or the input ends.
+fn read_on(space: &mut [u8], had: usize, size: usize) -> usize
+    requires { ⌜ had ≤ length (now space) ⌝ }
+    ensures { λ r. ⌜ (had ≤ r) × (r ≤ length (now (space .entry))) × Kept had (now (space .entry)) (now (space .exit)) ⌝ }
+{
+    let mut have = had;
+    while have < space.len() {
+        if size <= have {
+            return have;
+        }
+        let more = read_behind(space, have);
+        if more == 0 {
+            return have;
+        }
+        have += more;
+    }
+    have
+}
+
+// Reads on until so many octets stand in the window, the space is full, or the input ends. What comes in depends on the world outside, so
+// this says what holds whatever is read: what has not been taken stands first, and the window lies in the space.
+pub fn filled(space: &mut [u8], window: Window, size: usize) -> Window
+    ensures { λ r. ⌜ Filled (now (space .entry)) window r (now (space .exit)) ⌝ }
+{
+    if has(space, window, size) {
+        return window;
+    }
+    let have = seen(space, window).len();
+    to_front(space, window.from, have);
+    Window {
+        from: 0,
+        to: read_on(space, have, size),
+    }
+}
+
+// Writes a text to standard output, and answers whether it could: no contract can say what is written.
+pub fn say(text: &[u8]) -> bool {
+    io::write_all(1, text)
+}

@@ -1,0 +1,110 @@
+#!/usr/bin/env python3
+"""compare.py [FIRST SECOND] [--seed S] [--print N] [--drive N] [--fixed]
+
+Gives the same inputs to the programs `print` and `drive` of two folders and compares what they write, octet for octet.
+Without folders: the proved programs and the second program, both built.
+
+    --fixed      the fixed set: every systematic input (systematic.py) and conversations of fixed seeds
+    --print N    conversations from seed S until N runs have been printed by each program
+    --drive N    the same until N gaps have been driven
+    --seed S     the seed of these, 1 if not given
+
+Ends at the first difference: status 1, the input in a file `difference-FACE.bin`, the run or gap and both lines shown.
+"""
+
+import argparse
+import itertools
+import sys
+import time
+
+from coverage import Coverage
+from generate import random_inputs
+from programs import FACES, PROVED, SECOND, difference, run_little_by_little, run_program
+from systematic import little_by_little, systematic_inputs
+
+# Random conversations in the fixed set: some before the systematic inputs, for most faults show at once, and the rest
+# behind them. An input has about 270 runs or 190 gaps.
+EARLY_INPUTS = {"print": 12, "drive": 12}
+LATER_INPUTS = {"print": 780, "drive": 290}
+
+
+def conversations(seed, counts):
+    for face in FACES:
+        for name, octets in itertools.islice(random_inputs(seed, face), counts[face]):
+            yield face, name, octets, run_program
+
+
+def fixed_set():
+    """(face, name, octets, way to run) of every input of the fixed set, in its order."""
+    yield from conversations("early", EARLY_INPUTS)
+    for face, name, octets in systematic_inputs():
+        yield face, name, octets, run_program
+    for face, name, octets in little_by_little():
+        yield face, name, octets, run_little_by_little
+    yield from conversations("fixed", LATER_INPUTS)
+
+
+class Comparison:
+    """Two folders and what has been compared of them."""
+
+    def __init__(self, first, second):
+        self.first = first
+        self.second = second
+        self.coverage = Coverage()
+
+    def compare(self, face, name, octets, run=run_program):
+        """True if the programs agree on this input."""
+        first, second = run(self.first, face, octets), run(self.second, face, octets)
+        found = difference(face, first, second)
+        if found:
+            report(face, name, octets, found)
+        else:
+            # Only now: a program that is wrong may write lines that cannot be taken apart.
+            self.coverage.note_output(face, first.output)
+        return found is None
+
+    def compare_conversations(self, seed, face, lines):
+        """Random inputs until so many runs or gaps have been compared."""
+        goal = self.coverage.lines[face] + lines
+        for name, octets in random_inputs(seed, face):
+            if self.coverage.lines[face] >= goal:
+                return True
+            if not self.compare(face, name, octets):
+                return False
+
+    def compare_fixed(self):
+        return all(self.compare(*given) for given in fixed_set())
+
+
+def report(face, name, octets, found):
+    path = f"difference-{face}.bin"
+    with open(path, "wb") as file:
+        file.write(octets)
+    print(f"{face}, {name} (saved to {path}, {len(octets)} octets): {found.text()}")
+
+
+def arguments():
+    parser = argparse.ArgumentParser(description=__doc__, formatter_class=argparse.RawDescriptionHelpFormatter)
+    parser.add_argument("first", nargs="?", default=PROVED)
+    parser.add_argument("second", nargs="?", default=SECOND)
+    parser.add_argument("--seed", default="1")
+    parser.add_argument("--print", type=int, default=0, metavar="N")
+    parser.add_argument("--drive", type=int, default=0, metavar="N")
+    parser.add_argument("--fixed", action="store_true")
+    return parser.parse_args()
+
+
+def main():
+    wanted = arguments()
+    comparison = Comparison(wanted.first, wanted.second)
+    begun = time.time()
+    agree = not wanted.fixed or comparison.compare_fixed()
+    for face, lines in (("print", wanted.print), ("drive", wanted.drive)):
+        agree = agree and comparison.compare_conversations(wanted.seed, face, lines)
+    print(comparison.coverage.table())
+    print(f"\n{time.time() - begun:.0f} s; " + ("no difference" if agree else "they differ"))
+    return 0 if agree else 1
+
+
+if __name__ == "__main__":
+    sys.exit(main())

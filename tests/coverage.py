@@ -1,0 +1,81 @@
+"""What occurred, counted from the output lines of a program: how deep the inputs go."""
+
+from collections import Counter
+
+FIXED_REPLIES = {0x00: "ACK", 0x01: "NACK", 0x09: "nothing (09)", 0x0B: "status (0B)"}
+REPLY_TYPES = (1, 8, 11, 71, 72, 131)
+REQUEST_TYPES = (100, 102, 103, 122, 123, 181, 183, 185, 186, 187)
+CAUSES = ("7", "7 P/N", "10", "13", "14", "15", "16", "17", "18")
+FAULTS = ("version", "image", "cut", "call")
+DATA, P_N, CAUSE_BITS = 5, 0x40, 0x3F
+
+
+def reply_of_line(face, fields):
+    """The reply's octets of a line that was split at spaces."""
+    if face == "print":
+        return b"" if fields[3] == "-" else bytes.fromhex("".join(fields[3:]))
+    return bytes.fromhex(fields[5])[:int(fields[1])]
+
+
+def order_of_line(face, fields):
+    return fields[2]
+
+
+def number_of_line(face, fields):
+    return fields[1] if face == "print" else fields[0]
+
+
+class Coverage:
+    """Counters of both faces together, and of each for result numbers and faults."""
+
+    def __init__(self):
+        self.lines = Counter()      # by face: runs or gaps
+        self.inputs = Counter()     # by face
+        self.numbers = Counter()    # by face and number, or face and fault word
+        self.orders = Counter()
+        self.replies = Counter()    # fixed replies by name, data replies by type
+        self.mirrors = Counter()    # by request type and cause
+        self.most_octets = 0
+
+    def note_output(self, face, output):
+        self.inputs[face] += 1
+        for line in output.decode("ascii", "replace").splitlines():
+            fields = line.split()
+            if len(fields) < 4:
+                self.numbers[face, line] += 1
+            else:
+                self.note_line(face, fields)
+
+    def note_line(self, face, fields):
+        self.lines[face] += 1
+        self.numbers[face, number_of_line(face, fields)] += 1
+        self.orders[order_of_line(face, fields)] += 1
+        reply = reply_of_line(face, fields)
+        if reply:
+            self.note_reply(reply)
+
+    def note_reply(self, reply):
+        self.most_octets = max(self.most_octets, len(reply))
+        if reply[0] == 0x10:
+            self.replies[FIXED_REPLIES.get(reply[1], "other")] += 1
+        elif reply[9] & CAUSE_BITS == DATA:
+            self.replies[reply[7]] += 1
+        else:
+            cause = str(reply[9] & CAUSE_BITS) + (" P/N" if reply[9] & P_N else "")
+            self.mirrors[reply[7] if reply[7] in REQUEST_TYPES else "other", cause] += 1
+
+    def table(self):
+        rows = [f"inputs: {self.inputs['print']} print, {self.inputs['drive']} drive;"
+                f" compared: {self.lines['print']} runs, {self.lines['drive']} gaps;"
+                f" longest reply {self.most_octets} octets", "", "| result | print | drive |", "|---|---|---|"]
+        for number in [*map(str, range(10)), *FAULTS]:
+            rows.append(f"| {number} | {self.numbers['print', number]} | {self.numbers['drive', number]} |")
+        rows += ["", "| reply | times |", "|---|---|"]
+        for reply in (*FIXED_REPLIES.values(), *REPLY_TYPES):
+            rows.append(f"| {reply if isinstance(reply, str) else f'type {reply}'} | {self.replies[reply]} |")
+        for order in ("clock", "dates"):
+            rows.append(f"| order {order} | {self.orders[order]} |")
+        rows += ["", "| mirror of | " + " | ".join(CAUSES) + " |", "|---" * (len(CAUSES) + 1) + "|"]
+        for kind in (*REQUEST_TYPES, "other"):
+            rows.append(f"| {kind} | " + " | ".join(str(self.mirrors[kind, cause] or "") for cause in CAUSES) + " |")
+        return "\n".join(rows)

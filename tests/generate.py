@@ -1,0 +1,83 @@
+#!/usr/bin/env python3
+"""generate.py SEED COUNT FACE: prints COUNT inputs of the face (print or drive) drawn from SEED, one a line in hex.
+
+    tests/generate.py 7 3 drive | sed -n 2p | xxd -r -p | proved/drive
+
+The same seed gives the same inputs. `random_inputs` is what compare.py uses.
+"""
+
+import random
+import sys
+
+from lines import DriveLine, PrintLine
+from meter import UNSOUND, random_meter, random_octets
+from talk import Centre, random_clock
+
+RUNS_IN_AN_INPUT = {"print": (100, 400), "drive": (60, 250)}
+
+
+def conversation(chance, face, length=None):
+    """One input that holds a conversation from power-on, of about so many runs or gaps."""
+    meter = random_meter(chance)
+    clock = random_clock(chance)
+    if face == "print":
+        line = PrintLine(chance, meter.octets, clock)
+    else:
+        line = DriveLine(chance, meter.octets, clock, mischief=chance.choice((0.0, 0.05, 0.3)))
+    centre = Centre(chance, meter, line, unrest=chance.choice((0.02, 0.1, 0.3, 0.5)))
+    centre.converse(length or chance.randint(*RUNS_IN_AN_INPUT[face]))
+    return line.octets()
+
+
+def faulty_print_input(chance):
+    """An input that the printing program ends early on: version, image or cut."""
+    whole = conversation(chance, "print")
+    way = chance.choice(("version", "image", "changed image", "cut", "cut early"))
+    if way == "version":
+        return bytes([chance.choice((0, 2, chance.randrange(256)))]) + whole[1:]
+    if way == "image":
+        image = chance.choice(UNSOUND)[1]
+        behind = random_octets(chance, chance.randint(0, 12))
+        return b"\x01" + len(image).to_bytes(2, "big") + image + behind
+    if way == "changed image":
+        at = chance.randrange(3, 3 + int.from_bytes(whole[1:3], "big"))
+        return whole[:at] + random_octets(chance, 1) + whole[at + 1:]
+    if way == "cut early":
+        return whole[:chance.randint(0, 3 + int.from_bytes(whole[1:3], "big") + 12)]
+    return whole[:chance.randint(0, len(whole))]
+
+
+def faulty_drive_input(chance):
+    """An input that the driving program ends early on, with cut or call, or gives other meaning to."""
+    whole = conversation(chance, "drive")
+    if chance.random() < 0.5:
+        return whole[:chance.randint(0, len(whole))]
+    at = chance.randrange(len(whole))
+    return whole[:at] + random_octets(chance, 1) + whole[at + 1:]
+
+
+def random_input(chance, face):
+    if chance.random() < 0.05:
+        return faulty_print_input(chance) if face == "print" else faulty_drive_input(chance)
+    return conversation(chance, face)
+
+
+def random_inputs(seed, face):
+    """(name, octets) without end. Each input has a seed of its own, so that one can be made again alone."""
+    number = 0
+    while True:
+        name = f"{face} seed {seed} input {number}"
+        yield name, random_input(random.Random(name), face)
+        number += 1
+
+
+def main(seed, count, face):
+    inputs = random_inputs(seed, face)
+    for _ in range(int(count)):
+        print(next(inputs)[1].hex())
+
+
+if __name__ == "__main__":
+    if len(sys.argv) != 4 or sys.argv[3] not in RUNS_IN_AN_INPUT:
+        sys.exit(__doc__)
+    main(*sys.argv[1:])

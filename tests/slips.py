@@ -1,0 +1,164 @@
+#!/usr/bin/env python3
+"""slips.py [NAME or SECTION ...]: do the comparison's inputs notice small slips?
+
+Each entry of slips/entries.txt is put into a copy of the second program's sources, which is built with `make` and
+compared with the right program on the inputs of the fixed set, in their order, until it is noticed. The table goes to
+docs/SLIPS.md; with names or sections only these slips are tried, and only their rows are replaced. Status 1 if a slip
+is not noticed.
+"""
+
+import os
+import shutil
+import subprocess
+import sys
+import tempfile
+import time
+from pathlib import Path
+
+from compare import fixed_set
+from programs import ROOT, difference
+
+SOURCE = ROOT / "second"
+ENTRIES = ROOT / "tests" / "slips" / "entries.txt"
+TABLE = ROOT / "docs" / "SLIPS.md"
+
+
+class Slip:
+    def __init__(self, name):
+        self.name = name
+        self.section = self.file = ""
+        self.old, self.new = [], []
+
+    def read_line(self, line):
+        if line.startswith("-"):
+            self.old.append(line[2:])
+        elif line.startswith("+"):
+            self.new.append(line[2:])
+        elif line.strip():
+            self.section, self.file = (part.strip() for part in line.split("|"))
+
+    def apply(self, source):
+        path = Path(source) / self.file
+        text, old = path.read_text(), "\n".join(self.old)
+        if text.count(old) != 1:
+            raise ValueError(f"{self.name}: the old text occurs {text.count(old)} times in {self.file}")
+        path.write_text(text.replace(old, "\n".join(self.new)))
+
+
+def read_slips():
+    slips = []
+    for line in ENTRIES.read_text().splitlines():
+        if line.startswith("== "):
+            slips.append(Slip(line[3:].strip()))
+        elif slips and not line.startswith("#"):
+            slips[-1].read_line(line)
+    names = [slip.name for slip in slips]
+    if len(set(names)) != len(names):
+        raise ValueError("a name is given twice: " + ", ".join(name for name in set(names) if names.count(name) > 1))
+    return slips
+
+
+def build(target, slip=None):
+    """A copy of the sources, with the slip, built; returns the folder of its programs."""
+    shutil.copytree(SOURCE, target, ignore=shutil.ignore_patterns("build", "build-san", "check"))
+    if slip:
+        slip.apply(target)
+    made = subprocess.run(["make", "-s"], cwd=target, capture_output=True, text=True)
+    if made.returncode != 0:
+        sys.exit(f"{slip.name if slip else 'the right program'} does not build:\n{made.stderr}")
+    return os.path.join(target, "build")
+
+
+class RightAnswers:
+    """The right program's outcomes, each worked out once and kept for all slips."""
+
+    def __init__(self, folder):
+        self.folder = folder
+        self.inputs = fixed_set()
+        self.known = []
+
+    def __iter__(self):
+        """(face, name, octets, way to run, outcome) of the fixed set, in order."""
+        at = 0
+        while True:
+            if at == len(self.known):
+                following = next(self.inputs, None)
+                if following is None:
+                    return
+                face, name, octets, run = following
+                self.known.append((face, name, octets, run, run(self.folder, face, octets)))
+            yield self.known[at]
+            at += 1
+
+
+class Finding:
+    """What became of a slip: by which input it was noticed, after how many runs and gaps."""
+
+    def __init__(self, slip):
+        self.slip = slip
+        self.compared = {"print": 0, "drive": 0}
+        self.noticed_by = None
+
+    def try_inputs(self, folder, answers):
+        for face, name, octets, run, right in answers:
+            found = difference(face, right, run(folder, face, octets))
+            if found:
+                self.compared[face] += found.at + 1
+                self.noticed_by = f"{face}, {name}"
+                return
+            self.compared[face] += right.output.count(b"\n")
+
+    def row(self):
+        after = f"{self.compared['print']} runs, {self.compared['drive']} gaps"
+        if self.noticed_by is None:
+            return f"| {self.slip.name} | {self.slip.section} | **not noticed** after {after} | |"
+        return f"| {self.slip.name} | {self.slip.section} | {after} | {self.noticed_by} |"
+
+
+def try_slip(slip, answers):
+    finding = Finding(slip)
+    with tempfile.TemporaryDirectory() as folder:
+        finding.try_inputs(build(os.path.join(folder, "slip"), slip), answers)
+    return finding
+
+
+def known_rows():
+    """The rows of the table by slip."""
+    if not TABLE.exists():
+        return {}
+    rows = [line for line in TABLE.read_text().splitlines() if line.startswith("| ")]
+    return {row.split(" | ")[0][2:]: row for row in rows}
+
+
+def write_table(slips, findings):
+    by_name = known_rows() | {finding.slip.name: finding.row() for finding in findings}
+    rows = [by_name[slip.name] for slip in slips if slip.name in by_name]
+    missed = sum("**not noticed**" in row for row in rows)
+    text = [
+        "# Slips", "",
+        "How much the comparison notices. Written by `tests/slips.py`: each slip is put into the second program alone, and",
+        "the fixed set is given to both until an output differs. Runs and gaps are those compared until then, in the order",
+        "of the fixed set: first a dozen conversations over each face, then the systematic inputs, then the other",
+        "conversations. A line `version`, `image`, `cut` or `call` counts as one, too.", "",
+        f"{len(rows)} slips, {len(rows) - missed} noticed.", "",
+        "| slip | section | noticed after | by |", "|---|---|---|---|"]
+    TABLE.write_text("\n".join(text + rows) + "\n")
+
+
+def main(wanted):
+    slips = read_slips()
+    findings, begun = [], time.time()
+    with tempfile.TemporaryDirectory() as folder:
+        answers = RightAnswers(build(os.path.join(folder, "right")))
+        for slip in slips:
+            if not wanted or slip.name in wanted or slip.section in wanted:
+                findings.append(try_slip(slip, answers))
+                print(f"{time.time() - begun:4.0f} s {findings[-1].row()}", flush=True)
+    write_table(slips, findings)
+    missed = [finding.slip.name for finding in findings if finding.noticed_by is None]
+    print(f"{len(findings)} slips, {len(findings) - len(missed)} noticed; not noticed: {', '.join(missed) or 'none'}")
+    return 1 if missed else 0
+
+
+if __name__ == "__main__":
+    sys.exit(main(sys.argv[1:]))
