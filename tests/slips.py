@@ -3,10 +3,11 @@
 
 Each entry of slips/entries.txt is put into a copy of the second program's sources, which is built with `make` and
 compared with the right program on the inputs of the fixed set, in their order, until it is noticed. The table goes to
-docs/SLIPS.md; with names or sections only these slips are tried, and only their rows are replaced. Status 1 if a slip
-is not noticed.
+docs/SLIPS.md, with a sum over all that its rows rest on; with names or sections only these slips are tried, only their
+rows are replaced, and the sum stays. Status 1 if a slip is not noticed.
 """
 
+import hashlib
 import os
 import shutil
 import subprocess
@@ -21,6 +22,16 @@ from programs import ROOT, difference
 SOURCE = ROOT / "second"
 ENTRIES = ROOT / "tests" / "slips" / "entries.txt"
 TABLE = ROOT / "docs" / "SLIPS.md"
+INPUTS = ("compare", "generate", "lines", "meter", "systematic", "talk", "wire")
+
+
+def rests_on():
+    """The line that says what the rows rest on: a sum over the second program, the inputs and the slips."""
+    files = [*SOURCE.glob("*.[ch]"), *(ROOT / "tests" / f"{name}.py" for name in INPUTS), ENTRIES]
+    together = hashlib.sha256()
+    for file in sorted(files):
+        together.update(f"{file.name} {hashlib.sha256(file.read_bytes()).hexdigest()}\n".encode())
+    return f"Second program, inputs and slips: {together.hexdigest()[:16]}."
 
 
 class Slip:
@@ -130,8 +141,14 @@ def known_rows():
     return {row.split(" | ")[0][2:]: row for row in rows}
 
 
+def known_sum():
+    found = [line for line in TABLE.read_text().splitlines() if line.startswith("Second program, ")] if TABLE.exists() else []
+    return found[0] if found else "Second program, inputs and slips: never tried together."
+
+
 def write_table(slips, findings):
     by_name = known_rows() | {finding.slip.name: finding.row() for finding in findings}
+    whole = len(findings) == len(slips)
     rows = [by_name[slip.name] for slip in slips if slip.name in by_name]
     missed = sum("**not noticed**" in row for row in rows)
     text = [
@@ -140,7 +157,9 @@ def write_table(slips, findings):
         "the fixed set is given to both until an output differs. Runs and gaps are those compared until then, in the order",
         "of the fixed set: first a dozen conversations over each face, then the systematic inputs, then the other",
         "conversations. A line `version`, `image`, `cut` or `call` counts as one, too.", "",
+        "`./test` sees that nothing that the rows rest on has changed since they were written; the sum below is over it.", "",
         f"{len(rows)} slips, {len(rows) - missed} noticed.", "",
+        rests_on() if whole else known_sum(), "",
         "| slip | section | noticed after | by |", "|---|---|---|---|"]
     TABLE.write_text("\n".join(text + rows) + "\n")
 

@@ -1,2 +1,3 @@
 pub mod Address
 mod Determined
+mod RuledOut

@@ -1,3 +1,4 @@
 pub mod State
 pub mod Gap
 mod Determined
+mod RuledOut

@@ -1,2 +1,3 @@
 pub mod Carrying
 mod Determined
+mod RuledOut

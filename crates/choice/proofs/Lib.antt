@@ -2,3 +2,4 @@ pub mod Chosen
 pub mod Laws
 pub mod Range
 mod Determined
+mod RuledOut

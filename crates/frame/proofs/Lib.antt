@@ -6,3 +6,4 @@ pub mod Writing
 pub mod RoundTrip
 pub mod OneOctet
 mod Determined
+mod RuledOut

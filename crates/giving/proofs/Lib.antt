@@ -2,3 +2,4 @@ pub mod Giving
 pub mod Groups
 pub mod Collected
 mod Determined
+mod RuledOut

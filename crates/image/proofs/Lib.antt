@@ -5,3 +5,4 @@ pub mod Run
 pub mod Soundness
 pub mod Dates
 mod Determined
+mod RuledOut

@@ -1,2 +1,3 @@
 pub mod Input
 mod Determined
+mod RuledOut

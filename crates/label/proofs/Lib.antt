@@ -3,3 +3,4 @@ pub mod Time
 pub mod Label
 pub mod Order
 mod Determined
+mod RuledOut

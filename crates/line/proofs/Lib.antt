@@ -3,3 +3,4 @@ pub mod Hearing
 pub mod Examining
 pub mod Damage
 mod Determined
+mod RuledOut

@@ -1,2 +1,3 @@
 pub mod Answering
 mod Determined
+mod RuledOut

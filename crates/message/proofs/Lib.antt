@@ -3,3 +3,4 @@ pub mod Head
 pub mod Mirror
 pub mod Kept
 mod Determined
+mod RuledOut

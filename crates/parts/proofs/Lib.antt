@@ -1,3 +1,4 @@
 pub mod Parts
 pub mod Answers
 mod Determined
+mod RuledOut

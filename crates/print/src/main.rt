@@ -1,5 +1,6 @@
 // The printing program: an image, a clock and runs from standard input, a line for each run. Document 01, "The printing program".
 use card::Card;
+use card::Gone;
 use input::Head;
 use input::Run;
 use stream::Window;
@@ -10,18 +11,23 @@ struct Left {
     more: bool,
 }
 
+// The line of a run.
+fn told(gone: Gone, number: u64, reply: &[u8]) -> bool {
+    let mut text = [0u8; 1024];
+    let order = gone.order;
+    let octets = octets::part(reply, 0, gone.length as usize);
+    let count = printing::line(&mut text, number, gone.number, order, octets);
+    stream::say(octets::part(&text, 0, count))
+}
+
 // A gap, and its line.
 fn answer(card: Card, image: &[u8], clock: [u8; 7], number: u64) -> Left {
     let mut reply = [0u8; 261];
-    let mut text = [0u8; 1024];
     let gone = card.gap(image, clock, &mut reply);
-    let order = gone.order;
     let after = gone.card;
-    let octets = octets::part(&reply, 0, gone.length as usize);
-    let count = printing::line(&mut text, number, gone.number, order, octets);
     Left {
         card: after,
-        more: stream::say(octets::part(&text, 0, count)),
+        more: told(gone, number, &reply),
     }
 }
 
@@ -89,11 +95,10 @@ fn read_head(space: &mut [u8]) -> Window {
     stream::filled(space, start, size)
 }
 
-fn main() {
-    let mut space = [0u8; 131072];
-    let mut head = [0u8; 65545];
-    let window = read_head(&mut space);
-    let read = stream::seen(&space, window);
+// The head is kept apart from what is read after it, since the image is lent to every gap.
+fn converse(space: &mut [u8], head: &mut [u8]) {
+    let window = read_head(space);
+    let read = stream::seen(space, window);
     let size = input::head_size(read);
     match input::judge_head(read) {
         Head::Version => {
@@ -106,10 +111,16 @@ fn main() {
             stream::say(b"image\n");
         }
         Head::Whole => {
-            octets::put(&mut head, 0, octets::part(read, 0, size));
-            let image = input::image_in(&head);
-            let clock = input::clock_in(&head);
-            runs(image, clock, &mut space, stream::taken(window, size));
+            octets::put(head, 0, octets::part(read, 0, size));
+            let image = input::image_in(head);
+            let clock = input::clock_in(head);
+            runs(image, clock, space, stream::taken(window, size));
         }
     }
+}
+
+fn main() {
+    let mut space = [0u8; 131072];
+    let mut head = [0u8; 65545];
+    converse(&mut space, &mut head);
 }

@@ -1,3 +1,4 @@
 pub mod Text
 pub mod Lines
 mod Determined
+mod RuledOut

@@ -1,3 +1,5 @@
 pub mod Searching
 pub mod ByType
+pub mod Decided
 mod Determined
+mod RuledOut

@@ -1,2 +1,3 @@
 pub mod Filling
 mod Determined
+mod RuledOut

@@ -10,7 +10,7 @@ pub mod Repeats
 pub mod CountBit
 pub mod Smallest
 pub mod Examples
-pub mod Computed
+pub mod Worked
 pub mod Noisy
 pub mod Cases
 pub mod Wrong

@@ -10,7 +10,7 @@ use Rattle.octets.specs.Conditions.{holds}
 use Rattle.octets.specs.Numbers.{lowFirst}
 use Rattle.octets.specs.Sum.{octetSum, checksum}
 use Rattle.octets.proofs.Numbers.{Octets}
-use Rattle.history.specs.History.{answers}
+use Rattle.history.specs.History.{answers, after, fed}
 use Rattle.history.specs.Noise.{Noised, Deaf, Unnoticed}
 use Rattle.history.specs.Noise as N
 use Rattle.frame.specs.Family.{sapr}
@@ -18,16 +18,17 @@ use Rattle.frame.specs.Frame.{fixed, Verdict, refused, sound, sumRight, fixedFo
 use Rattle.frame.specs.Control.{offered}
 use Rattle.frame.proofs.Frame.{judge-empty, judge-long}
 use Rattle.line.specs.declared.Collector.{Collector}
+use Rattle.line.specs.Collecting.{emptied}
 use Rattle.card.specs.declared.Card.{Card}
 use Rattle.card.specs.State.{cardAtPowerOn}
-use Rattle.tender.specs.Card.{ours}
+use Rattle.tender.specs.Card.{replyIn, ours}
 use Rattle.tender.specs.Condition3.{Fit, Noise, Alike, Mute, Counting, Again}
 use Rattle.tender.proofs.Condition3.{condition-3, one-octet-noise}
 use Rattle.tender.proofs.Repeats.{repeats}
 use Rattle.tender.proofs.Smallest.{fit}
 use Rattle.tender.specs.Cases.{smallest, lent, reset, asking}
-use Rattle.tender.proofs.Examples.{long, malformed, spoiled, changed, quiet, noisy, ack, odd, ready}
-use Rattle.tender.proofs.Computed.{computed}
+use Rattle.tender.proofs.Examples.{long, malformed, spoiled, changed, quiet, noisy, ack, unanswered, odd, ready, nothingToGive}
+use Rattle.tender.proofs.Worked.{everything}
 
 -- a run that is refused, and not by 1, is noise
 pub refused-noise : (run : List ℕ) (n : ℕ) → judge sapr run ≡ refused n → 2 ≤ n → Noise run
@@ -84,16 +85,53 @@ unfolding judge fixedForm holds startOf sumRight checksum octetSum said saidFixe
 counting = record { frame = fixed 0x7B 1; is-sound = refl; not-reset = λ e. omega arith; not-status = λ e. omega arith }
 
 -- so, of all that the noisy history gets, the ACK is what is left
-pub ack-left : N.remaining put-in (answers ours cardAtPowerOn noisy) ≡ ack ∷ []
-ack-left = unheard .same ∙ computed .quiet-answers
+quiet-answers : answers ours cardAtPowerOn quiet ≡ ack ∷ []
+unfolding everything
+quiet-answers = refl
 
--- and the frame received again gets the same
+pub ack-left : N.remaining put-in (answers ours cardAtPowerOn noisy) ≡ ack ∷ []
+ack-left = unheard .same ∙ quiet-answers
+
+-- as it is when the noisy history is worked out: each run of noise gets its number, and counts as damaged
+pub noisy-answers : answers ours cardAtPowerOn noisy ≡ unanswered 2 ∷ unanswered 3 ∷ ack ∷ unanswered 4 ∷ unanswered 4 ∷ []
+unfolding everything
+noisy-answers = refl
+
+pub quiet-count : after ours cardAtPowerOn quiet .damaged ≡ 0
+unfolding everything
+quiet-count = refl
+
+pub noisy-count : after ours cardAtPowerOn noisy .damaged ≡ 4
+unfolding everything
+noisy-count = refl
+
+-- and the frame received again gets the same, 09
+ready-empty : ready .collector ≡ emptied
+unfolding everything
+ready-empty = refl
+
+ready-answers : ours .gap (fed ours ready asking) lent .answer .number ≡ 0
+unfolding everything
+ready-answers = refl
+
+pub ready-reply : replyIn (ours .gap (fed ours ready asking) lent .answer) ≡ nothingToGive
+unfolding everything
+ready-reply = refl
+
 pub asked-again : Again ours ready asking lent lent
-asked-again = repeats smallest (lent .clock) ready asking lent lent (computed .ready-empty) counting fit fit (computed .ready-answers)
+asked-again = repeats smallest (lent .clock) ready asking lent lent ready-empty counting fit fit ready-answers
 
 -- asked of every state, the laws do not hold of our card, whatever rest is: a gap with no run leaves the odd one as it came, noise does not
+odd-kept : ours .gap odd lent .state ≡ odd
+unfolding everything
+odd-kept = refl
+
+odd-noise : getD (ours .gap (fed ours odd malformed) lent .state .collector .octets) 0 0 ≡ 0
+unfolding everything
+odd-noise = refl
+
 pub every-state : (Rest : Card → Type 0) → Deaf ours (Fit smallest (lent .clock)) Noise (λ (card : Card). Unit {0}) Alike Rest Mute → ⊥
 every-state Rest d =
-    let rest : Rest odd = rw (computed .odd-kept) at (d .gap-rests odd lent fit tt) in
+    let rest : Rest odd = rw odd-kept at (d .gap-rests odd lent fit tt) in
     let same = ap (λ (c : Collector). getD (c .octets) 0 0) (d .noise-alike odd malformed lent rest malformed-noise fit .collectors) in
-    omega (arith, computed .odd-first, computed .odd-noise, same)
+    omega (arith, odd-noise, same)

@@ -11,7 +11,7 @@ use lib.Dec.{ltb, eqb}
 use lib.ListN.{getD, take, drop}
 use Rattle.octets.specs.Numbers.{lowFirst}
 use Rattle.octets.specs.Values.{signed}
-use Rattle.octets.proofs.Choice.{either}
+use Rattle.octets.proofs.Choice.{either, refuted}
 use Rattle.octets.proofs.Numbers.{Octets}
 use Rattle.address.specs.declared.LinkAddress.{LinkAddress}
 use Rattle.address.specs.declared.PointAddress.{PointAddress}
@@ -24,9 +24,10 @@ use Rattle.message.specs.Table.{table, rowIn}
 use Rattle.request.specs.declared.Session.{Session}
 use Rattle.request.specs.declared.Session.the-variants.{Closed, Open}
 use Rattle.request.specs.declared.Rule.{Rule}
-use Rattle.request.specs.declared.Rule.the-variants.{Marked, UnknownType, NoSession, UnknownPoint, OtherSession, Shape, Address, Objects, ReadingLabel, ReadingRange, NoReading, EventLabel, EventRange, NoEvent, ClockUnset, NoDates, TimeLabel, WrongPassword, Accepted}
+use Rattle.request.specs.declared.Rule.the-variants.{WrongPassword, Accepted}
 use Rattle.request.specs.Rules.{causeBy, pnBy}
 use Rattle.request.specs.Decide.{marked, unlisted, isClosed, missing, isOther, decide}
+use Rattle.request.proofs.Decided.{only-seven}
 use Rattle.replies.specs.Replies.{readingReply}
 use Rattle.replies.proofs.Replies.{objectPart, object-number, object-value, object-quality}
 use Rattle.carrying.specs.declared.Order.the-variants as order
@@ -143,27 +144,8 @@ data-in-session session image clock m =
     (λ _. either P (isOther session (h .point) && not (eqb (h .kind) 183)) (λ _ e. absurd (omega (arith, ap causeBy e)))
     (λ o e n. open-for session (h .point) (first-false _ _ (other n) c) (first-false _ _ (other n) o))))))
 
--- P/N 1 comes with cause 7 only
 no-7 : (rule : Rule) → (causeBy rule ≡ 7 → ⊥) → pnBy rule ≡ false
-no-7 Marked other = refl
-no-7 UnknownType other = refl
-no-7 NoSession other = refl
-no-7 UnknownPoint other = refl
-no-7 OtherSession other = refl
-no-7 Shape other = refl
-no-7 Address other = refl
-no-7 Objects other = refl
-no-7 ReadingLabel other = refl
-no-7 ReadingRange other = refl
-no-7 NoReading other = refl
-no-7 EventLabel other = refl
-no-7 EventRange other = refl
-no-7 NoEvent other = refl
-no-7 ClockUnset other = refl
-no-7 NoDates other = refl
-no-7 TimeLabel other = absurd (other refl)
-no-7 WrongPassword other = absurd (other refl)
-no-7 Accepted other = refl
+no-7 rule other = sym (refuted (pnBy rule) (λ e. other (only-seven rule e)))
 
 -- a message refused by cause 14, 15 or 16, a 183 or any other, leaves the session
 pub refused-183 : (rule : Rule) (kind : ℕ) (point : PointAddress) (session : Session) → 14 ≤ causeBy rule → causeBy rule ≤ 16

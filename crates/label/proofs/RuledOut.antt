@@ -1,0 +1,261 @@
+-- What the public contracts of this crate do not allow: two wrong outcomes or more of each.
+-- By computation; of all labels by the condition that fails. Assumes nothing.
+use Prim.Native.Nat.{ℕ, _+_, _*_, _≤_}
+use mathlib.Core.Bool.{Bool, true, false, false≢true}
+use mathlib.Core.Path.{_≡_, sym, ap, _∙_}
+use native.Mathlib.Omega.{arith}
+use contract.Lifetimes.{Lfts}
+use lib.IntN.{ℤ, pos, natAbs}
+use borrow.Author.Tests.{ltb-true, eqb-true, le-ltb}
+use Rattle.octets.specs.Conditions.{holds}
+use Rattle.octets.specs.Numbers.{lowFirst}
+use Rattle.octets.proofs.Conditions.{holds-at}
+use Rattle.octets.proofs.Outcome.{RuledOut, never}
+use Rattle.label.specs.declared.DateTime.{DateTime}
+use Rattle.label.specs.declared.LabelA.{LabelA}
+use Rattle.label.specs.declared.LabelB.{LabelB}
+use Rattle.label.specs.declared.Moment.{Moment}
+use Rattle.label.specs.Calendar.{leap, leapDay, monthLength, daysOfMonths, daysToYear, dayNumber}
+use Rattle.label.specs.Time.{real, minutes}
+use Rattle.label.specs.Label.{dateTimeA, validA, instant, beforeA, millisecond, second, validB, inMinute, beforeB, momentA, momentB, iv, tis, etiPti, hourReserved}
+use Rattle.label.proofs.DateTime.is_real.Reads as is-real
+use Rattle.label.proofs.LabelA.date_time.Reads as a-date-time
+use Rattle.label.proofs.LabelA.is_valid.Reads as a-is-valid
+use Rattle.label.proofs.LabelA.instant.Reads as a-instant
+use Rattle.label.proofs.LabelA.is_before.Reads as a-is-before
+use Rattle.label.proofs.LabelA.moment.Reads as a-moment
+use Rattle.label.proofs.LabelB.second.Reads as b-second
+use Rattle.label.proofs.LabelB.millisecond.Reads as b-millisecond
+use Rattle.label.proofs.LabelB.is_valid.Reads as b-is-valid
+use Rattle.label.proofs.LabelB.in_minute.Reads as b-in-minute
+use Rattle.label.proofs.LabelB.is_before.Reads as b-is-before
+use Rattle.label.proofs.LabelB.moment.Reads as b-moment
+
+-- to unfold one of these is to unfold what a real date, a valid label, an instant stand on
+the-date : Unit {0}
+unfolding real holds leap leapDay monthLength
+the-date = tt
+
+the-label : Unit {0}
+unfolding validA dateTimeA the-date
+the-label = tt
+
+the-instant : Unit {0}
+unfolding instant minutes dayNumber daysToYear daysOfMonths the-label
+the-instant = tt
+
+-- a date and time; a label a by its octets as they stand; and with two octets in front
+abbrev date : ℕ → ℕ → ℕ → ℕ → ℕ → DateTime
+date year month day hour minute = record { year = year; month = month; day = day; hour = hour; minute = minute }
+
+abbrev labelA : ℕ → ℕ → ℕ → ℕ → ℕ → LabelA
+labelA minute hour day month year = record { minute = minute; hour = hour; day = day; month = month; year = year }
+
+abbrev labelB : ℕ → ℕ → LabelA → LabelB
+labelB low high a = record { low = low; high = high; a = a }
+
+module _ (κs : Lfts 0) where
+  -- minute 60 as real, whatever the date and hour
+  is-real-minute : (year month day hour : ℕ) → RuledOut (is-real.Post κs) (date year month day hour 60, tt) true
+  unfolding real
+  is-real-minute year month day hour s p = false≢true (holds-at _ (sym p) 6)
+
+  -- hour 24 as real, whatever the date and minute
+  is-real-hour : (year month day minute : ℕ) → RuledOut (is-real.Post κs) (date year month day 24 minute, tt) true
+  unfolding real
+  is-real-hour year month day minute s p = false≢true (holds-at _ (sym p) 5)
+
+  -- day 0 as real, whatever the month and time
+  is-real-day : (year month hour minute : ℕ) → RuledOut (is-real.Post κs) (date year month 0 hour minute, tt) true
+  unfolding real
+  is-real-day year month hour minute s p = false≢true (holds-at _ (sym p) 3)
+
+  -- 29 February 2000 as not real
+  is-real-leap : RuledOut (is-real.Post κs) (date 0 2 29 0 0, tt) false
+  unfolding the-date
+  is-real-leap s p = never (cc)
+
+  -- 29 February 2001 as real
+  is-real-common : RuledOut (is-real.Post κs) (date 1 2 29 0 0, tt) true
+  unfolding the-date
+  is-real-common s p = never (cc)
+
+  -- 31 June as real, whatever the year and time
+  is-real-length : (year hour minute : ℕ) → RuledOut (is-real.Post κs) (date year 6 31 hour minute, tt) true
+  unfolding real monthLength
+  is-real-length year hour minute s p = false≢true (holds-at _ (sym p) 4)
+
+  -- the last day of a month as not real
+  is-real-last : RuledOut (is-real.Post κs) (date 26 12 31 23 59, tt) false
+  unfolding the-date
+  is-real-last s p = never (cc)
+
+  -- the day with the weekday, whatever the rest
+  a-date-time-weekday : (l : LabelA) (year month hour minute : ℕ) → 32 ≤ l .day
+      → RuledOut (a-date-time.Post κs) (l, tt) (date year month (l .day) hour minute)
+  unfolding dateTimeA
+  a-date-time-weekday l year month hour minute above s p = omega (arith, ap (λ (r : DateTime). r .day) p)
+
+  -- the hour with the bits above it, whatever the rest
+  a-date-time-hour : (l : LabelA) (year month day minute : ℕ) → 32 ≤ l .hour
+      → RuledOut (a-date-time.Post κs) (l, tt) (date year month day (l .hour) minute)
+  unfolding dateTimeA
+  a-date-time-hour l year month day minute above s p = omega (arith, ap (λ (r : DateTime). r .hour) p)
+
+  -- a label with IV set as valid, whatever the rest
+  a-is-valid-iv : (l : LabelA) → iv l ≡ 1 → RuledOut (a-is-valid.Post κs) (l, tt) true
+  unfolding validA
+  a-is-valid-iv l set s p = omega (arith, eqb-true (iv l) 0 (holds-at _ (sym p) 1))
+
+  -- a label with TIS set as valid, whatever the rest
+  a-is-valid-tis : (l : LabelA) → tis l ≡ 1 → RuledOut (a-is-valid.Post κs) (l, tt) true
+  unfolding validA
+  a-is-valid-tis l set s p = omega (arith, eqb-true (tis l) 0 (holds-at _ (sym p) 2))
+
+  -- a label with ETI or PTI set as valid, whatever the rest
+  a-is-valid-eti : (l : LabelA) → (etiPti l ≡ 0 → ⊥) → RuledOut (a-is-valid.Post κs) (l, tt) true
+  unfolding validA
+  a-is-valid-eti l set s p = set (eqb-true (etiPti l) 0 (holds-at _ (sym p) 3))
+
+  -- a label with a reserved bit of its hour set as valid, whatever the rest
+  a-is-valid-reserved : (l : LabelA) → (hourReserved l ≡ 0 → ⊥) → RuledOut (a-is-valid.Post κs) (l, tt) true
+  unfolding validA
+  a-is-valid-reserved l set s p = set (eqb-true (hourReserved l) 0 (holds-at _ (sym p) 4))
+
+  -- a label refused for SU
+  a-is-valid-su : RuledOut (a-is-valid.Post κs) (labelA 0 0x80 1 1 26, tt) false
+  unfolding the-label
+  a-is-valid-su s p = never (cc)
+
+  -- 1 January 2001 00:15, label 0F 00 21 01 01, refused for its weekday
+  a-is-valid-weekday : RuledOut (a-is-valid.Post κs) (labelA 0x0F 0 0x21 1 1, tt) false
+  unfolding the-label
+  a-is-valid-weekday s p = never (cc)
+
+  -- an hour of 61 minutes
+  a-instant-hour : RuledOut (a-instant.Post κs) (labelA 0 1 1 1 0, tt) (pos 61)
+  unfolding the-instant
+  a-instant-hour s p = omega (arith, ap natAbs p)
+
+  -- minutes counted from 31 December 1999
+  a-instant-start : RuledOut (a-instant.Post κs) (labelA 0 0 1 1 0, tt) (pos 1440)
+  unfolding the-instant
+  a-instant-start s p = omega (arith, ap natAbs p)
+
+  -- a 29 February counted in 2001
+  a-instant-march : RuledOut (a-instant.Post κs) (labelA 0 0 1 3 1, tt) (pos 613440)
+  unfolding the-instant
+  a-instant-march s p = omega (arith, ap natAbs p)
+
+  -- an instant other than 0 of a label that is not valid
+  a-instant-not-valid : (l : LabelA) (n : ℕ) → validA l ≡ false → (n ≡ 0 → ⊥) → RuledOut (a-instant.Post κs) (l, tt) (pos n)
+  unfolding instant
+  a-instant-not-valid l n not-valid more s p = more (ap natAbs (rw not-valid at p))
+
+  -- a label before itself, whatever label it is
+  a-is-before-same : (l : LabelA) → RuledOut (a-is-before.Post κs) (l, (l, tt)) true
+  unfolding beforeA instant
+  a-is-before-same l s p = omega (arith, ltb-true (natAbs (instant l)) (natAbs (instant l)) (sym p))
+
+  -- the later label before the earlier, whatever labels they are
+  a-is-before-other : (l m : LabelA) → beforeA l m ≡ true → RuledOut (a-is-before.Post κs) (m, (l, tt)) true
+  unfolding beforeA instant
+  a-is-before-other l m before s p =
+      omega (arith, ltb-true (natAbs (instant l)) (natAbs (instant m)) before, ltb-true (natAbs (instant m)) (natAbs (instant l)) (sym p))
+
+  -- octets compared as they stand, the minute first: 00:59 not before 01:00
+  a-is-before-octets : RuledOut (a-is-before.Post κs) (labelA 59 0 1 1 0, (labelA 0 1 1 1 0, tt)) false
+  unfolding beforeA the-instant
+  a-is-before-octets s p = never (cc)
+
+  -- the moment of a valid label told as not valid, whatever the instant
+  a-moment-valid : (l : LabelA) (i : ℤ) → validA l ≡ true → RuledOut (a-moment.Post κs) (l, tt) (record { valid = false; minute = i })
+  unfolding momentA
+  a-moment-valid l i valid s p = false≢true (ap (λ (r : Moment). r .valid) p ∙ valid)
+
+  -- the moment of a label that is not valid told as valid, whatever the instant
+  a-moment-not-valid : (l : LabelA) (i : ℤ) → validA l ≡ false → RuledOut (a-moment.Post κs) (l, tt) (record { valid = true; minute = i })
+  unfolding momentA
+  a-moment-not-valid l i not-valid s p = false≢true (sym (ap (λ (r : Moment). r .valid) p ∙ not-valid))
+
+  -- the days of an instant in place of its minutes
+  a-moment-days : (v : Bool) → RuledOut (a-moment.Post κs) (labelA 0 0 2 1 0, tt) (record { valid = v; minute = pos 1 })
+  unfolding momentA the-instant
+  a-moment-days v s p = omega (arith, ap (λ (r : Moment). natAbs (r .minute)) p)
+
+  module _ (a : LabelA) where
+    -- the seconds of E7 EF with the upper bit of the milliseconds
+    b-second-bits : RuledOut (b-second.Post κs) (labelB 0xE7 0xEF a, tt) 55
+    unfolding second lowFirst
+    b-second-bits s p = omega arith
+
+    -- the seconds of E7 EF read high octet first
+    b-second-swapped : RuledOut (b-second.Post κs) (labelB 0xE7 0xEF a, tt) 57
+    unfolding second lowFirst
+    b-second-swapped s p = omega arith
+
+    -- the milliseconds of E7 EF with the lowest bit of the seconds
+    b-millisecond-bits : RuledOut (b-millisecond.Post κs) (labelB 0xE7 0xEF a, tt) 2023
+    unfolding millisecond lowFirst
+    b-millisecond-bits s p = omega arith
+
+    -- the milliseconds of E7 EF read high octet first
+    b-millisecond-swapped : RuledOut (b-millisecond.Post κs) (labelB 0xE7 0xEF a, tt) 1007
+    unfolding millisecond lowFirst
+    b-millisecond-swapped s p = omega arith
+
+    -- second 60 as valid, whatever the minute
+    b-is-valid-second : RuledOut (b-is-valid.Post κs) (labelB 0 0xF0 a, tt) true
+    unfolding validB holds second lowFirst
+    b-is-valid-second s p = never (cc)
+
+    -- 1000 milliseconds as valid, whatever the minute
+    b-is-valid-millisecond : RuledOut (b-is-valid.Post κs) (labelB 0xE8 3 a, tt) true
+    unfolding validB holds second millisecond lowFirst
+    b-is-valid-millisecond s p = never (cc)
+
+    -- a label b as valid whose label a is not, whatever its seconds and milliseconds
+    b-is-valid-minute : (low high : ℕ) → validA a ≡ false → RuledOut (b-is-valid.Post κs) (labelB low high a, tt) true
+    unfolding validB
+    b-is-valid-minute low high not-valid s p = false≢true (sym not-valid ∙ holds-at _ (sym p) 2)
+
+    -- 59 seconds and 999 milliseconds refused in a valid minute
+    b-is-valid-last : validA a ≡ true → RuledOut (b-is-valid.Post κs) (labelB 0xE7 0xEF a, tt) false
+    unfolding validB holds second millisecond lowFirst
+    b-is-valid-last valid s p = never (cc)
+
+    -- the moment of a label with second 60 told as valid, whatever the minute
+    b-moment-second : (i : ℤ) → RuledOut (b-moment.Post κs) (labelB 0 0xF0 a, tt) (record { valid = true; minute = i })
+    unfolding momentB validB holds second lowFirst
+    b-moment-second i s p = false≢true (sym (ap (λ (r : Moment). r .valid) p))
+
+    -- the moment of a label with 1000 milliseconds told as valid, whatever the minute
+    b-moment-millisecond : (i : ℤ) → RuledOut (b-moment.Post κs) (labelB 0xE8 3 a, tt) (record { valid = true; minute = i })
+    unfolding momentB validB holds second millisecond lowFirst
+    b-moment-millisecond i s p = false≢true (sym (ap (λ (r : Moment). r .valid) p))
+
+  -- a second of 100 milliseconds, of every label with a second
+  b-in-minute-hundred : (l : LabelB) → (second l ≡ 0 → ⊥) → RuledOut (b-in-minute.Post κs) (l, tt) (second l * 100 + millisecond l)
+  unfolding inMinute
+  b-in-minute-hundred l more s p = more (omega arith)
+
+  -- a second of 1001 milliseconds, of every label with a second
+  b-in-minute-more : (l : LabelB) → (second l ≡ 0 → ⊥) → RuledOut (b-in-minute.Post κs) (l, tt) (second l * 1001 + millisecond l)
+  unfolding inMinute
+  b-in-minute-more l more s p = more (omega arith)
+
+  -- a label before itself, whatever label it is
+  b-is-before-same : (l : LabelB) → RuledOut (b-is-before.Post κs) (l, (l, tt)) true
+  unfolding beforeB beforeA instant
+  b-is-before-same l s p =
+      never (cc (le-ltb (natAbs (instant (l .a))) (natAbs (instant (l .a))) (omega arith), le-ltb (inMinute l) (inMinute l) (omega arith)))
+
+  -- the earlier minute not before the later, whatever the seconds and milliseconds
+  b-is-before-minute : (l m : LabelB) → beforeA (l .a) (m .a) ≡ true → RuledOut (b-is-before.Post κs) (l, (m, tt)) false
+  unfolding beforeB
+  b-is-before-minute l m before s p = never (cc)
+
+  -- octets compared as they stand: 256 milliseconds before 255 of the same second
+  b-is-before-octets : (a : LabelA) → RuledOut (b-is-before.Post κs) (labelB 0 1 a, (labelB 0xFF 0 a, tt)) true
+  unfolding beforeB beforeA instant inMinute second millisecond lowFirst
+  b-is-before-octets a s p = never (cc (le-ltb (natAbs (instant a)) (natAbs (instant a)) (omega arith)))

@@ -1,0 +1,200 @@
+#!/usr/bin/env python3
+"""papers.py [--check]: what the documents count and list is written from the sources, or with --check compared with them.
+
+- docs/CONTRACTS.md: the column "Ruled out". A theorem of crates/CRATE/proofs/RuledOut.antt is listed by the comment above it, beside
+  the call whose contract it is about; an edit of crates/CRATE/must-fail by its first line, in italics, beside the call that it names.
+- docs/READING.md: the lines of the files in its table, and the figures that stand between `<!--NAME-->` and `<!---->`.
+- docs/SLIPS.md is written by slips.py; here it is seen that nothing that its rows rest on has changed since.
+
+It is an error if a public call has no row, a row no call, a call with a contract fewer than two wrong answers, an edit a call that
+is not there, or a file of definitions no place in docs/READING.md. Status 1 then, and with --check if a document is not current.
+"""
+
+import re
+import sys
+
+from edits import read_edits
+from programs import ROOT
+from slips import TABLE as SLIPS, rests_on
+
+CRATES, CONTRACTS, READING = ROOT / "crates", ROOT / "docs" / "CONTRACTS.md", ROOT / "docs" / "READING.md"
+WORKED_OUT = ("parts/specs/Key", "image/specs/Keys", "choice/specs/Keys", "request/specs/ByType")
+PROGRAMS = ("input", "stream", "printing")
+
+
+class Call:
+    """A public function, and the wrong answers that are tried against its contract."""
+
+    def __init__(self, crate, name, has_contract):
+        self.crate, self.name, self.has_contract = crate, name, has_contract
+        self.theorems, self.edits = [], []
+
+    def ruled_out(self):
+        return "; ".join(self.theorems + [f"*{says}*" for says in self.edits])
+
+
+def calls_of(crate):
+    """The public functions of a crate's source, by name; a method is `Type::name`."""
+    calls, owner = {}, ""
+    for file in sorted((CRATES / crate / "src").glob("*.rt")):
+        lines = file.read_text(encoding="utf8").splitlines()
+        for at, line in enumerate(lines):
+            if found := re.match(r"impl (\w+) \{", line):
+                owner = found.group(1) + "::"
+            elif line == "}":
+                owner = ""
+            elif found := re.match(r"\s*pub fn (\w+)", line):
+                name = owner + found.group(1)
+                calls[name] = Call(crate, name, has_contract(lines[at:]))
+    return calls
+
+
+def has_contract(lines):
+    """Whether an `ensures` stands between a function's name and its body."""
+    for line in lines:
+        if "ensures {" in line:
+            return True
+        if line.endswith("{"):
+            return False
+    return False
+
+
+def commented(text):
+    """(comment, name, type) of each declaration that has a comment of one line above it; its type ends where its lines begin."""
+    lines = text.splitlines()
+    for at, line in enumerate(lines[:-1]):
+        found = re.match(r"(\S+) :", lines[at + 1].strip())
+        if line.strip().startswith("-- ") and found:
+            name, of = found.group(1), [lines[at + 1]]
+            for more in lines[at + 2:]:
+                if more.strip().startswith((f"{name} ", "unfolding ")):
+                    break
+                of.append(more)
+            yield line.strip()[3:], name, "\n".join(of)
+
+
+def read_theorems(crate, calls, errors):
+    file = CRATES / crate / "proofs" / "RuledOut.antt"
+    if not file.exists():
+        return
+    text = file.read_text(encoding="utf8")
+    functions = {alias: path.replace(".", "::") for path, alias in re.findall(r"^use \S+?\.proofs\.(\S+)\.Reads as (\S+)$", text, re.M)}
+    for says, name, of in commented(text):
+        if found := re.search(r"RuledOut.*?\(([\w-]+)\.Post", of, re.S):
+            call = calls.get(functions.get(found.group(1)))
+            if call:
+                call.theorems.append(says)
+            else:
+                errors.append(f"{crate}: the theorem {name} is about no public call")
+    listed = sum(len(call.theorems) for call in calls.values())
+    stated = len(re.findall(r"RuledOut(?:With)? .*?\.Post", text))
+    if listed != stated:
+        errors.append(f"{crate}: {stated} theorems in RuledOut.antt, and {listed} with a comment that can be listed")
+
+
+def read_calls(errors):
+    """All crates' public calls with what is tried against them."""
+    every = {}
+    for folder in sorted(CRATES.iterdir()):
+        every[folder.name] = calls_of(folder.name)
+        read_theorems(folder.name, every[folder.name], errors)
+    for edit in read_edits():
+        call = every[edit.crate].get(edit.call)
+        if call:
+            call.edits.append(edit.says)
+        else:
+            errors.append(f"{edit.label}: no public call '{edit.call}'")
+    for calls in every.values():
+        for call in calls.values():
+            tried = len(call.theorems) + len(call.edits)
+            if call.has_contract and tried < 2:
+                errors.append(f"{call.crate}: {call.name}: {tried} wrong answers tried, and two are asked for")
+    return every
+
+
+def contracts(text, every, errors):
+    """docs/CONTRACTS.md with its column "Ruled out" written anew."""
+    crate, rows, out = "", set(), []
+    for line in text.splitlines():
+        if found := re.match(r"## `(\w+)`", line):
+            crate = found.group(1)
+        found = re.match(r"(\| `([\w:]+)\(.*?\)` \| .*?) \|(?: .*)? ?\|$", line) if crate else None
+        if found:
+            call = every[crate].get(found.group(2))
+            if not call:
+                errors.append(f"docs/CONTRACTS.md: {crate} has no public call '{found.group(2)}'")
+                continue
+            rows.add((crate, call.name))
+            line = f"{found.group(1)} | {call.ruled_out()} |"
+        out.append(line)
+    for crate, calls in every.items():
+        for name in calls:
+            if (crate, name) not in rows:
+                errors.append(f"docs/CONTRACTS.md: no row for {crate}: {name}")
+    return "\n".join(out) + "\n"
+
+
+def lines_in(files):
+    return sum(len(file.read_text(encoding="utf8").splitlines()) for file in files)
+
+
+def reading(text, every, errors):
+    """docs/READING.md with its figures written anew."""
+    specs = {f"{file.parts[-3]}/specs/{file.stem}": file for file in sorted(CRATES.glob("*/specs/*.antt")) if file.stem != "Lib"}
+    listed = []
+
+    def row(found):
+        name = found.group(1)
+        if name not in specs:
+            errors.append(f"docs/READING.md: no file {name}")
+            return found.group(0)
+        listed.append(specs[name])
+        return f"| `{name}` | {lines_in([specs[name]])} |"
+
+    text = re.sub(r"^\| `(\w+/specs/\w+)` \| [\d,]+ \|", row, text, flags=re.M)
+    for name in specs:
+        if name not in text and name.rpartition("/")[0] + "`" not in text:
+            errors.append(f"docs/READING.md: {name} is named nowhere")
+    calls = [call for calls in every.values() for call in calls.values()]
+    figures = {
+        "specs": lines_in(CRATES.glob("*/specs/*.antt")),
+        "src": lines_in(CRATES.glob("*/src/*.rt")),
+        "proofs": lines_in(CRATES.glob("*/proofs/**/*.antt")),
+        "listed": lines_in(listed),
+        "worked": lines_in(specs[name] for name in WORKED_OUT),
+        "programs": lines_in(file for name, file in specs.items() if name.startswith(PROGRAMS)),
+        "theorems": sum(len(call.theorems) for call in calls),
+        "edits": sum(len(call.edits) for call in calls),
+    }
+
+    def figure(found):
+        name = found.group(1)
+        if name not in figures:
+            errors.append(f"docs/READING.md: no figure '{name}'")
+            return found.group(0)
+        return f"<!--{name}-->{figures[name]:,}<!---->"
+
+    return re.sub(r"<!--(\w+)-->[\d,]*<!---->", figure, text)
+
+
+def main(words):
+    errors = []
+    every = read_calls(errors)
+    for path, written in ((CONTRACTS, contracts), (READING, reading)):
+        old = path.read_text(encoding="utf8")
+        new = written(old, every, errors)
+        if words == ["--check"]:
+            if new != old:
+                errors.append(f"docs/{path.name} is not current: run tests/papers.py")
+        elif not errors:
+            path.write_text(new, encoding="utf8")
+    if rests_on() not in SLIPS.read_text(encoding="utf8"):
+        errors.append("docs/SLIPS.md is not current: run tests/slips.py")
+    for error in errors:
+        print(f"papers: {error}")
+    print(f"papers: {'not in order' if errors else 'in order'}")
+    return 1 if errors else 0
+
+
+if __name__ == "__main__":
+    sys.exit(main(sys.argv[1:]))
