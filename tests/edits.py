@@ -176,7 +176,7 @@ def main(wanted):
     failed, kinds, seconds = [], collections.Counter(), collections.Counter()
     with tempfile.TemporaryDirectory() as room:
         trial = Trial(room)
-        with concurrent.futures.ThreadPoolExecutor(os.cpu_count()) as pool:
+        with concurrent.futures.ThreadPoolExecutor(len(os.sched_getaffinity(0))) as pool:
             for edit, (took, fault, where, kind) in zip(edits, pool.map(trial.run, edits)):
                 seconds[edit.crate] += took
                 if fault:
