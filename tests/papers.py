@@ -19,7 +19,7 @@ from slips import TABLE as SLIPS, rests_on
 
 CRATES, CONTRACTS, READING = ROOT / "crates", ROOT / "docs" / "CONTRACTS.md", ROOT / "docs" / "READING.md"
 WORKED_OUT = ("parts/specs/Key", "image/specs/Keys", "choice/specs/Keys", "request/specs/ByType")
-PROGRAMS = ("input", "stream", "printing")
+PROGRAMS = ("input", "stream", "printing", "turns")
 
 
 class Call:
@@ -43,17 +43,17 @@ def calls_of(crate):
                 owner = found.group(1) + "::"
             elif line == "}":
                 owner = ""
-            elif found := re.match(r"\s*pub fn (\w+)", line):
+            elif found := re.match(r"\s*pub (?:extern \"C\" )?fn (\w+)", line):
                 name = owner + found.group(1)
                 calls[name] = Call(crate, name, has_contract(lines[at:]))
     return calls
 
 
 def has_contract(lines):
-    """Whether an `ensures` stands between a function's name and its body."""
+    """Whether an `ensures` stands between a function's name and its body, and says something."""
     for line in lines:
         if "ensures {" in line:
-            return True
+            return "⊤ₛ" not in line
         if line.endswith("{"):
             return False
     return False

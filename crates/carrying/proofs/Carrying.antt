@@ -1,12 +1,15 @@
--- An order's octets fit into ten; and a rule that accepts has P/N 0.
--- By the orders, and by the definition. Assumes nothing.
+-- An order's octets fit into ten, and their number determines it.
+-- By the orders. Assumes nothing.
 use Prim.Native.Nat.{ℕ, _+_, _≤_}
 use mathlib.Core.Bool.{Bool}
 use mathlib.Core.List.{List}
-use mathlib.Core.Path.{_≡_}
+use mathlib.Core.Path.{_≡_, refl}
 use native.Mathlib.Omega.{arith}
+use lib.Dec.{eqb}
 use lib.ListN.{length, take, drop, replicate, length-take}
+use Rattle.octets.specs.Choice.{if_then_else_}
 use Rattle.octets.specs.Over.{Put}
+use Rattle.octets.proofs.Outcome.{determined}
 use Rattle.octets.proofs.Over.{put-fits}
 use Rattle.carrying.specs.declared.Order.{Order}
 use Rattle.carrying.specs.declared.Order.the-variants.{Nothing, Clock, Dates}
@@ -24,3 +27,16 @@ time-is order m e d p =
     let small = at-most-ten order in
     let fits : 0 + length (take (timeOctets order) (drop 6 m)) ≤ 10 = omega (arith, small, length-take (timeOctets order) (drop 6 m)) in
     put-fits (rw (d, e) at p) fits
+
+-- the order with so many time octets
+by-octets : ℕ → Order
+by-octets many = if eqb many 0 then Nothing else if eqb many 7 then Clock else Dates
+
+octets-back : (order : Order) → by-octets (timeOctets order) ≡ order
+unfolding by-octets
+octets-back Nothing = refl
+octets-back Clock = refl
+octets-back Dates = refl
+
+pub order-one : {order other : Order} → timeOctets order ≡ timeOctets other → order ≡ other
+order-one = determined timeOctets by-octets octets-back

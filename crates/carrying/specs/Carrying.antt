@@ -5,6 +5,7 @@ use mathlib.Core.Bool.{Bool, true, false, not, _&&_, _||_}
 use mathlib.Core.List.{List, []}
 use lib.Dec.{eqb}
 use lib.ListN.{take, drop, replicate}
+use Rattle.octets.specs.Answer.{Answer}
 use Rattle.octets.specs.Choice.{if_then_else_}
 use Rattle.octets.specs.Over.{over}
 use Rattle.address.specs.declared.PointAddress.{PointAddress}
@@ -48,6 +49,10 @@ abbrev pub timeOctets : Order → ℕ
 timeOctets order.Nothing = 0
 timeOctets order.Clock = 7
 timeOctets order.Dates = 10
+
+-- an order has no number on paper but that of its time octets, which tells the three apart
+abbrev pub orderSays : Order → Answer
+orderSays order = record { number = timeOctets order; values = [] }
 
 unfoldable pub timeAfter : Order → List ℕ → List ℕ
 timeAfter order m = over (replicate 10 0) 0 (take (timeOctets order) (drop 6 m))

@@ -63,9 +63,20 @@ fn with_room(bench: Bench, room: u16) -> Left {
     going_on(next)
 }
 
+// Octets come in one by one, as a line delivers them.
+fn octet_by_octet(card: Card, octets: &[u8]) -> Card {
+    let mut next = card;
+    let mut i = 0;
+    while i < octets.len() {
+        next = next.octet(octets[i]);
+        i += 1;
+    }
+    next
+}
+
 fn with_octets(bench: Bench, octets: &[u8]) -> Left {
     let card = bench.card;
-    going_on(with_card(bench, card.octets(octets)))
+    going_on(with_card(bench, octet_by_octet(card, octets)))
 }
 
 // A gap that is lent so many octets of the buffer.

@@ -1,3 +1,4 @@
+pub mod Found
 pub mod Giving
 pub mod Groups
 pub mod Collected

@@ -3,20 +3,16 @@
 use Prim.Native.Nat.{ℕ, _+_, _%_, _<_}
 use mathlib.Core.Bool.{true, false, false≢true}
 use mathlib.Core.List.{List, _∷_}
-use mathlib.Core.Path.{_≡_, refl, sym, ap, _∙_}
+use mathlib.Core.Path.{_≡_, sym, ap, _∙_}
 use native.Mathlib.Omega.{arith}
 use contract.Lifetimes.{Lfts}
 use borrow.Author.Tests.{ne-eqb}
-use lib.Dec.{eqb}
 use lib.ListN.{getD, drop}
 use Rattle.octets.specs.Numbers.{lowOctets}
 use Rattle.octets.specs.Over.{over}
-use Rattle.octets.proofs.Choice.{either}
 use Rattle.octets.proofs.Outcome.{RuledOut, Place, lent, never}
 use Rattle.parts.specs.declared.Head.{Head}
-use Rattle.parts.specs.declared.HeadFound.{HeadFound}
 use Rattle.parts.specs.declared.HeadFound.the-variants as head
-use Rattle.parts.specs.declared.DatesFound.{DatesFound}
 use Rattle.parts.specs.declared.DatesFound.the-variants as dates
 use Rattle.parts.specs.Answers.{headFound, datesFound}
 use Rattle.choice.specs.declared.Query.the-variants.{Reading}
@@ -33,35 +29,9 @@ use Rattle.carrying.specs.declared.Waiting.the-variants.{Nothing, Mirror, Denie
 use Rattle.carrying.specs.declared.Pending.{Pending}
 use Rattle.carrying.specs.Carrying.{nothingPending, isWaiting}
 use Rattle.giving.specs.declared.Next.{Next}
-use Rattle.giving.specs.Giving.{reply, lastly, nothingFound, readingType, dataPending, mirrorWith, identityFrom, datesFrom, clockFrom, dataFrom, afterData, beginWith, nextBy, nextOf}
+use Rattle.giving.specs.Giving.{reply, lastly, nothingFound, readingType, dataPending, mirrorWith, clockFrom, dataFrom, afterData, beginWith, nextOf}
+use Rattle.giving.proofs.Found.{found-waiting}
 use Rattle.giving.proofs.next_reply.Reads as next-reply
-
--- of a request that is kept, with the clock that was taken
-module _ (request : Message) (clock image : List ℕ) where
-  -- a waiting 71 is found, whatever the first record
-  identity-found : (h : HeadFound) → identityFrom request h .found ≡ true
-  unfolding mirrorWith lastly reply
-  identity-found (head.Is h) = refl
-  identity-found head.Nothing = refl
-
-  -- and a waiting 131, with dates or without
-  dates-found : (d : DatesFound) → datesFrom request d .found ≡ true
-  unfolding mirrorWith lastly reply
-  dates-found (dates.Is d) = refl
-  dates-found dates.Nothing = refl
-
-  -- where something waits, a reply is found
-  waiting-found : (w : Waiting) → isWaiting w ≡ true → nextBy request w clock image .found ≡ true
-  unfolding nothingFound mirrorWith lastly reply beginWith clockFrom afterData
-  waiting-found Nothing e = e
-  waiting-found (Mirror cause) e = refl
-  waiting-found Denied e = refl
-  waiting-found Begin e = refl
-  waiting-found (Before n) e =
-      either (λ (next : Next). next .found ≡ true) (eqb (dataFrom request image n .many) 0) (λ _. refl) (λ _. refl)
-  waiting-found Identity e = identity-found (headFound image)
-  waiting-found Clock e = refl
-  waiting-found Dates e = dates-found (datesFound image)
 
 -- a request whose cause octet is c, and of which anything else may be
 module _ (κs : Lfts 1) (x : Place) (a b c : ℕ) (rest : List ℕ) (long : ℕ) (clock image : List ℕ) (wrong : Next) where
@@ -84,7 +54,7 @@ module _ (κs : Lfts 1) (x : Place) (a b c : ℕ) (rest : List ℕ) (long : ℕ)
   -- no reply given where one waits, whatever waits
   next-reply-waiting : (w : Waiting) → isWaiting w ≡ true → wrong .found ≡ false → RuledOut (next-reply.Post κs) (held w, (lent x image, tt)) wrong
   unfolding nextOf
-  next-reply-waiting w waits none s p = false≢true (sym none ∙ ap (λ (next : Next). next .found) p ∙ waiting-found request clock image w waits)
+  next-reply-waiting w waits none s p = false≢true (sym none ∙ ap (λ (next : Next). next .found) p ∙ found-waiting request clock image w ∙ waits)
 
   -- mirror 7 where mirror 10 is due
   next-reply-last-seven : (n : ℕ) → dataFrom request image n .many ≡ 0 → cause-there ≡ causeOctet (tOf c) 0 7

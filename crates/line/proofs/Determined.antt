@@ -1,6 +1,10 @@
 -- Every public contract of this crate leaves one outcome.
 -- By its one equation. Assumes nothing.
+use Prim.Native.Nat.{ℕ}
+use mathlib.Core.Path.{_≡_}
 use Rattle.octets.proofs.Outcome.{OneResult, one-outcome}
+use Rattle.line.specs.declared.Collector.{Collector}
+use Rattle.line.specs.Collecting.{PutIn}
 use Rattle.line.proofs.Collector.new.Reads as collector-new
 use Rattle.line.proofs.Collector.with.Reads as collector-with
 use Rattle.line.proofs.Collector.with_all.Reads as collector-with-all
@@ -11,9 +15,12 @@ use Rattle.line.proofs.damaged_after.Reads as damaged-after
 collector-new-one : OneResult collector-new.Post
 collector-new-one κs a r r′ s s′ = one-outcome
 
--- `collect` leaves what this answers; the check makes no reading of a contract over a struct that is lent
 collector-with-one : OneResult collector-with.Post
 collector-with-one κs a r r′ s s′ = one-outcome
+
+-- the check makes no reading of a contract over a struct that is lent: of `collect` the law is about the relation that its contract names
+collect-one : {before left left′ : Collector} {octet : ℕ} → PutIn before octet left → PutIn before octet left′ → left ≡ left′
+collect-one p p′ = one-outcome (p .leaves) (p′ .leaves)
 
 collector-with-all-one : OneResult collector-with-all.Post
 collector-with-all-one κs a r r′ s s′ = one-outcome

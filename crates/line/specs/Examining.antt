@@ -4,6 +4,7 @@ use Prim.Native.Nat.{ℕ}
 use mathlib.Core.Bool.{Bool, false, not}
 use mathlib.Core.List.{List, []}
 use lib.Dec.{eqb}
+use Rattle.octets.specs.Answer.{Answer}
 use Rattle.octets.specs.Choice.{if_then_else_}
 use Rattle.address.specs.declared.LinkAddress.{LinkAddress}
 use Rattle.address.specs.Address.{sameLink}
@@ -32,6 +33,9 @@ numberOf Malformed = 3
 numberOf Spoiled = 4
 numberOf OtherLink = 5
 numberOf NotOffered = 6
+
+abbrev pub findingSays : Finding → Answer
+findingSays f = record { number = numberOf f; values = [] }
 
 -- and back, of the four that need the run only
 abbrev pub findingOf : ℕ → Finding

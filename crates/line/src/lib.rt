@@ -9,7 +9,7 @@ ghost use Rattle.frame.specs.Family.{sapr};
 ghost use Rattle.frame.specs.Frame.{judge};
 ghost use Rattle.frame.specs.Control.{offered};
 ghost use Rattle.parts.specs.Answers.{headFound};
-ghost use Rattle.line.specs.Collecting.{emptied, overfull, collected, collectedAll};
+ghost use Rattle.line.specs.Collecting.{emptied, overfull, collected, collectedAll, PutIn};
 ghost use Rattle.line.specs.Examining.{numberOf, finding, isLink, examinedFrame, examinedVerdict, examined};
 ghost use Rattle.line.specs.Damage.{damagedAfter};
 use address::LinkAddress;
@@ -20,6 +20,7 @@ use message::Message;
 use parts::HeadFound;
 
 // The octets since the last gap: the first so many of the array, zeros behind. A length over 261 means overfull.
+#[repr(C)]
 pub struct Collector {
     pub octets: [u8; 261],
     pub length: u16,
@@ -123,8 +124,9 @@ fn written(octets: [u8; 261], at: usize, top: &[u8]) -> [u8; 261]
 }
 
 // The same of a collector that is lent.
-pub fn collect(collector: &mut Collector, octet: u8)
-    ensures { λ _. ⌜ now (collector .exit) ≡ collected (now (collector .entry)) octet ⌝ }
+#[no_mangle]
+pub extern "C" fn collect(collector: &mut Collector, octet: u8)
+    ensures { λ _. ⌜ PutIn (now (collector .entry)) octet (now (collector .exit)) ⌝ }
 {
     let had = *collector;
     let next = had.with(octet);

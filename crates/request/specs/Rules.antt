@@ -2,6 +2,9 @@
 -- Assumes nothing.
 use Prim.Native.Nat.{ℕ}
 use mathlib.Core.Bool.{Bool, true, false}
+use mathlib.Core.List.{[], _∷_}
+use Rattle.octets.specs.Answer.{Answer}
+use Rattle.message.specs.Mirror.{pnBit}
 use Rattle.request.specs.declared.Rule.{Rule}
 use Rattle.request.specs.declared.Rule.the-variants.{Marked, UnknownType, NoSession, UnknownPoint, OtherSession, Shape, Address, Objects, ReadingLabel, ReadingRange, NoReading, EventLabel, EventRange, NoEvent, ClockUnset, NoDates, TimeLabel, WrongPassword, Accepted}
 
@@ -47,3 +50,7 @@ pnBy NoDates = false
 pnBy TimeLabel = true
 pnBy WrongPassword = true
 pnBy Accepted = false
+
+-- the paper's number and value of a rule: its cause, and its P/N
+abbrev pub ruleSays : Rule → Answer
+ruleSays rule = record { number = causeBy rule; values = pnBit (pnBy rule) ∷ [] }

@@ -3,7 +3,7 @@
 use Prim.Native.Nat.{ℕ, _+_, _-_, _≤_, _<_}
 use mathlib.Core.List.{List}
 use mathlib.Core.Path.{_≡_, refl, sym, ap, _∙_}
-use mathlib.Core.Bool.{true, false, and-false}
+use mathlib.Core.Bool.{true, false, false≢true, and-false}
 use native.Mathlib.Nat.{zero-add}
 use native.Mathlib.Omega.{arith}
 use borrow.Author.Tests.{leb-true, le-leb, lt-leb}
@@ -61,16 +61,24 @@ module _ (space : List ℕ) (w : Window) where
   has-all size inside h = rw (le-leb (w .to) (length space) inside, le-leb (w .from + size) (w .to) h)
 
   -- then the window is filled as it is
-  pub filled-already : (size : ℕ) → hasIn space w size ≡ true → Filled space w w space
+  pub filled-already : (size : ℕ) → hasIn space w size ≡ true → Filled space w size w space
   filled-already size e =
       let inside : w .to ≤ length space = leb-true _ _ (and-left (leb (w .to) (length space)) _ e) in
       let room : w .from + size ≤ w .to = leb-true _ _ (and-right (leb (w .to) (length space)) _ e) in
-      record { same-length = refl; in-order = omega arith; in-space = inside; first = take-length (seenIn space w) }
+      record {
+        same-length = refl;
+        in-order = omega arith;
+        in-space = inside;
+        first = take-length (seenIn space w);
+        same-window = λ _. refl;
+        unchanged = λ _. refl;
+      }
 
-  -- moved to the front, and read on behind
-  pub filled-behind : (have to : ℕ) (front left : List ℕ) → have ≡ length (seenIn space w) → front ≡ over space 0 (take have (drop (w .from) space))
-      → have ≤ to → to ≤ length front → Kept have front left → Filled space w (record { from = 0; to = to }) left
-  filled-behind have to front left count moved more room kept =
+  -- too few stand there: they are moved to the front, and read on behind
+  pub filled-behind : (size have to : ℕ) (front left : List ℕ) → hasIn space w size ≡ false → have ≡ length (seenIn space w)
+      → front ≡ over space 0 (take have (drop (w .from) space))
+      → have ≤ to → to ≤ length front → Kept have front left → Filled space w size (record { from = 0; to = to }) left
+  filled-behind size have to front left not-yet count moved more room kept =
       let rest : List ℕ = drop (w .from) space in
       let few : length (seenIn space w) ≤ countOf w = omega (arith, length-take (countOf w) rest) in
       let seen : take have rest ≡ seenIn space w =
@@ -83,4 +91,6 @@ module _ (space : List ℕ) (w : Window) where
         in-order = omega arith;
         in-space = omega (arith, kept .same-length);
         first = rw (← count) (take-take have (to - 0) left (omega arith) ∙ kept .first ∙ stands);
+        same-window = λ e. absurd (false≢true (sym not-yet ∙ e));
+        unchanged = λ e. absurd (false≢true (sym not-yet ∙ e));
       }

@@ -1,15 +1,16 @@
 -- What the public contracts of this crate do not allow: two wrong outcomes or more of each.
 -- By computation, and by the lengths of what is seen; of reading, whatever the world outside gives. Assumes nothing.
 use Prim.Native.Nat.{ℕ, _+_, _<_}
+use mathlib.Core.Bool.{true}
 use mathlib.Core.List.{List, [], _∷_}
-use mathlib.Core.Path.{_≡_, ap}
+use mathlib.Core.Path.{_≡_, sym, ap, _∙_}
 use native.Mathlib.Omega.{arith}
 use contract.Lifetimes.{Lfts}
 use denote.Ref.{now}
 use lib.ListN.{length, drop, length-take}
 use Rattle.octets.proofs.Outcome.{RuledOut, RuledOutWith, Place, lent}
 use Rattle.stream.specs.declared.Window.{Window}
-use Rattle.stream.specs.Window.{countOf, seenIn}
+use Rattle.stream.specs.Window.{countOf, seenIn, hasIn}
 use Rattle.stream.proofs.seen.Reads as seen
 use Rattle.stream.proofs.taken.Reads as taken
 use Rattle.stream.proofs.filled.Reads as filled
@@ -75,3 +76,14 @@ module _ (κs : Lfts 1) (x : Place) (space : List ℕ) (w r : Window) (size : �
   -- a window that ends before it begins
   filled-order : r .to < r .from → RuledOut (filled.Post κs) (lent x space, (w, (size, tt))) r
   filled-order before s p = omega arith
+
+  -- as many octets as are asked for stand in the window already
+  module _ (enough : hasIn space w size ≡ true) where
+    -- another window where so many octets stand there already: moved to the front, or with more read behind it
+    filled-again : (r ≡ w → ⊥) → RuledOut (filled.Post κs) (lent x space, (w, (size, tt))) r
+    filled-again other s p = other (p .same-window enough)
+
+    -- an octet of the space changed where so many stand there already
+    filled-changed : (left : List ℕ) → (left ≡ space → ⊥)
+        → RuledOutWith (λ s. now (s .0)) (filled.Post κs) (lent x space, (w, (size, tt))) r left
+    filled-changed left other s e p = other (sym e ∙ p .unchanged enough)

@@ -1,7 +1,7 @@
 -- What has been read of an input and not taken yet: a window of a space.
 -- Assumes nothing.
 use Prim.Native.Nat.{ℕ, _+_, _-_, _≤_, min}
-use mathlib.Core.Bool.{Bool, _&&_}
+use mathlib.Core.Bool.{Bool, true, _&&_}
 use mathlib.Core.List.{List}
 use mathlib.Core.Path.{_≡_}
 use lib.Dec.{leb}
@@ -28,10 +28,13 @@ pub record Kept (many : ℕ) (space left : List ℕ) : Type 0 where
   pub same-length : length left ≡ length space
   pub first : take many left ≡ take many space
 
--- `Filled space w r left`: whatever is read behind the octets in window `w` of the space, they stand first in window `r`, which lies in the
--- space
-pub record Filled (space : List ℕ) (w r : Window) (left : List ℕ) : Type 0 where
+-- `Filled space w size r left`: whatever is read behind the octets in window `w` of the space, they stand first in window `r`, which lies in
+-- the space; and where `size` octets stand there already, the window is the same and the space is unchanged. Where too few stand, it is not
+-- said that any are read: the input may have ended
+pub record Filled (space : List ℕ) (w : Window) (size : ℕ) (r : Window) (left : List ℕ) : Type 0 where
   pub same-length : length left ≡ length space
   pub in-order : r .from ≤ r .to
   pub in-space : r .to ≤ length left
   pub first : take (length (seenIn space w)) (seenIn left r) ≡ seenIn space w
+  pub same-window : hasIn space w size ≡ true → r ≡ w
+  pub unchanged : hasIn space w size ≡ true → left ≡ space

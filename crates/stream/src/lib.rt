@@ -102,9 +102,10 @@ fn read_on(space: &mut [u8], had: usize, size: usize) -> usize
 }
 
 // Reads on until so many octets stand in the window, the space is full, or the input ends. What comes in depends on the world outside, so
-// this says what holds whatever is read: what has not been taken stands first, and the window lies in the space.
+// this says what holds whatever is read: what has not been taken stands first, and the window lies in the space; and where so many stand
+// there already, window and space are as they were. Where too few stand, one that reads nothing is allowed: the input may have ended.
 pub fn filled(space: &mut [u8], window: Window, size: usize) -> Window
-    ensures { λ r. ⌜ Filled (now (space .entry)) window r (now (space .exit)) ⌝ }
+    ensures { λ r. ⌜ Filled (now (space .entry)) window size r (now (space .exit)) ⌝ }
 {
     if has(space, window, size) {
         return window;
@@ -117,7 +118,10 @@ pub fn filled(space: &mut [u8], window: Window, size: usize) -> Window
     }
 }
 
-// Writes a text to standard output, and answers whether it could: no contract can say what is written.
-pub fn say(text: &[u8]) -> bool {
+// Writes a text to standard output, and answers whether it could. Nothing can be promised: the contract of `io::write_all` says nothing of
+// what is written, since no contract speaks of the world outside, and whether it could be written is the world's answer.
+pub fn say(text: &[u8]) -> bool
+    ensures { λ _. ⊤ₛ }
+{
     io::write_all(1, text)
 }

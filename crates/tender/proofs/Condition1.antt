@@ -5,14 +5,14 @@ use mathlib.Core.Bool.{Bool, true, false, not, _&&_, _||_, false≢true}
 use mathlib.Core.List.{List, [], _∷_}
 use mathlib.Core.Path.{_≡_, refl, ap, sym, _∙_}
 use native.Mathlib.Omega.{arith}
-use borrow.Author.Tests.{le-ltb, ltb-false}
 use lib.Dec.{leb, ltb, eqb}
 use lib.ListN.{length, drop, length-take}
+use borrow.Author.Tests.{le-leb, le-ltb, ltb-false}
 use Rattle.octets.specs.Answer.{Answer}
 use Rattle.octets.specs.Choice.{if_then_else_}
 use Rattle.octets.proofs.Choice.{not-both, either, if-both}
-use Rattle.history.specs.History.{Each}
 use Rattle.address.specs.declared.LinkAddress.{LinkAddress}
+use Rattle.history.specs.History.{Each}
 use Rattle.frame.specs.declared.Form.{Form}
 use Rattle.frame.specs.declared.Form.the-variants.{Fixed, Variable}
 use Rattle.frame.specs.declared.Service.{Service}
@@ -20,16 +20,16 @@ use Rattle.frame.specs.declared.Service.the-variants.{NotOffered, Reset, UserDa
 use Rattle.frame.specs.Family.{sapr}
 use Rattle.frame.specs.Frame.{Verdict, fixedForm, variableForm, sumRight, startOf, said, judge}
 use Rattle.frame.specs.Control.{fcb, fromCentre, asked, offered, serviceSays}
-use Rattle.image.specs.Image.{soundImage}
 use Rattle.message.specs.declared.Message.{Message}
 use Rattle.parts.specs.Answers.{headFound}
-use Rattle.carrying.specs.Carrying.{isWaiting}
-use Rattle.giving.specs.Giving.{nextOf}
+use Rattle.image.specs.Image.{soundImage}
 use Rattle.line.specs.declared.Heard.{Heard}
 use Rattle.line.specs.declared.Examined.{Examined}
-use Rattle.line.specs.Collecting.{isOverfull, runOf}
+use Rattle.line.specs.Collecting.{emptied, isOverfull, runOf}
 use Rattle.line.specs.Damage.{isDamaged, damagedAfter}
 use Rattle.line.specs.Examining.{heardOf, isLink, verdictOf, examinedFrame, examinedVerdict, examined}
+use Rattle.carrying.specs.Carrying.{isWaiting}
+use Rattle.giving.specs.Giving.{nextOf}
 use Rattle.link.specs.declared.Link.{Link}
 use Rattle.link.specs.declared.Answered.{Answered}
 use Rattle.link.specs.Answering.{refusedBy, replied, carried, noted, userData, given, collection, resetBy, statusBy, answered}
@@ -38,7 +38,7 @@ use Rattle.card.specs.declared.Card.{Card}
 use Rattle.card.specs.State.{withOctet, runGone, linkedBy}
 use Rattle.card.specs.Gap.{Outcome, refusal, afterAnswer, afterExamining, gapped}
 use Rattle.card.proofs.Gap.{answer-refused, answer-replied}
-use Rattle.tender.specs.Card.{Loan, seenOf, outcomeAt, ours}
+use Rattle.tender.specs.Card.{Loan, seenOf, outcomeAt, ourCard}
 use Rattle.tender.specs.Condition1.{Due, firstDue, refusals, Refused, Condition1, Counted}
 
 -- 2 to 7 empty the collector and keep link and session
@@ -47,7 +47,7 @@ goes n = leb 2 n && leb n 7
 
 -- the three ends of a gap: nothing changes; the run is gone, link and session are kept; a frame is answered
 data Ends (card : Card) : Outcome → ℕ → Type 0 where
-  kept : {n : ℕ} → isDamaged n ≡ false → Ends card (refusal n card) n
+  kept : {n : ℕ} → isDamaged n ≡ false → goes n ≡ false → Ends card (refusal n card) n
   gone : {n : ℕ} → goes n ≡ true → Ends card (refusal n (runGone n card)) n
   answers : {o : Outcome} → o .number ≡ 0 → o .card .damaged ≡ card .damaged → Ends card o 0
 
@@ -148,7 +148,7 @@ module _ (card : Card) (loan : Loan) where
   run-ends true e = rw e (gone {n = 2} refl)
   run-ends false e =
       rw (e, run-fits e)
-      (if-both VerdictEnds (eqb (length run) 0) (λ t. kept refl) (λ t.
+      (if-both VerdictEnds (eqb (length run) 0) (λ t. kept refl refl) (λ t.
       if-both VerdictEnds (not (fixedForm sapr run || variableForm sapr run)) (λ t. gone refl) (λ t.
       if-both VerdictEnds (not (sumRight (startOf sapr run) run)) (λ t. gone refl) (λ t. frame-ends))))
 
@@ -156,53 +156,62 @@ module _ (card : Card) (loan : Loan) where
   gap-ends : Ends card (outcomeAt card loan) (firstDue (refusals card loan))
   unfolding gapped isDamaged
   gap-ends =
-      if-both (Ends card) (ltb (length (loan .buffer)) 261) (λ t. kept refl) (λ t.
-      if-both (Ends card) (not (soundImage (loan .image))) (λ t. kept refl) (λ t.
+      if-both (Ends card) (ltb (length (loan .buffer)) 261) (λ t. kept refl refl) (λ t.
+      if-both (Ends card) (not (soundImage (loan .image))) (λ t. kept refl refl) (λ t.
       run-ends (isOverfull (card .collector)) refl))
 
 abbrev Leaves : Card → Loan → Outcome → Type 0
 Leaves card loan o = Refused card loan (record { state = o .card; answer = seenOf o (loan .buffer) })
 
+within : (n : ℕ) → 2 ≤ n → n ≤ 7 → goes n ≡ true
+within n least most = rw (le-leb 2 n least, le-leb n 7 most)
+
 -- what each end says
 module _ {card : Card} where
   ends-number : {o : Outcome} {n : ℕ} → Ends card o n → o .number ≡ n
   unfolding refusal
-  ends-number (kept d) = refl
+  ends-number (kept d g) = refl
   ends-number (gone g) = refl
   ends-number (answers e d) = e
 
   ends-counted : {o : Outcome} {n : ℕ} → Ends card o n → o .card .damaged ≡ damagedAfter (card .damaged) (o .number)
   unfolding refusal runGone damagedAfter isDamaged
-  ends-counted (kept d) = rw d
+  ends-counted (kept d g) = rw d
   ends-counted (gone g) = refl
   ends-counted (answers e d) = rw e d
 
-  ends-kept : {o : Outcome} {n m : ℕ} → Ends card o n → goes m ≡ false → (m ≡ 0 → ⊥) → o .number ≡ m → o .card ≡ card
+  -- a refusal that leaves this card: with 2 to 7 an empty collector, and else all as it was
+  refusal-leaves : (loan : Loan) (n : ℕ) (after : Card) → after .link ≡ card .link → (goes n ≡ true → after .collector ≡ emptied)
+      → (goes n ≡ false → after ≡ card) → Leaves card loan (refusal n after)
   unfolding refusal
-  ends-kept (kept d) out some is = refl
-  ends-kept (gone g) out some is = absurd (not-both (ap goes is ∙ out) g)
-  ends-kept (answers e d) out some is = absurd (some (sym is ∙ e))
-
-  refusal-leaves : (loan : Loan) (n : ℕ) (after : Card) → after .link ≡ card .link → Leaves card loan (refusal n after)
-  unfolding refusal
-  refusal-leaves loan n after e = record { buffer-kept = refl; no-reply = refl; no-order = refl; link-kept = e }
+  refusal-leaves loan n after link empty all =
+      record {
+        buffer-kept = refl;
+        no-reply = refl;
+        no-order = refl;
+        no-time = refl;
+        link-kept = link;
+        run-gone = λ least most. empty (within n least most);
+        empty-kept = λ is. all (ap goes is);
+        unsound-kept = λ is. all (ap goes is);
+        short-kept = λ is. all (ap goes is);
+      }
 
   ends-refused : (loan : Loan) {o : Outcome} {n : ℕ} → Ends card o n → (o .number ≡ 0 → ⊥) → Leaves card loan o
   unfolding runGone
-  ends-refused loan (kept d) some = refusal-leaves loan _ card refl
-  ends-refused loan (gone g) some = refusal-leaves loan _ (runGone _ card) refl
+  ends-refused loan (kept d out) some = refusal-leaves loan _ card refl (λ t. absurd (not-both out t)) (λ t. refl)
+  ends-refused loan (gone g) some = refusal-leaves loan _ (runGone _ card) refl (λ t. refl) (λ t. absurd (not-both t g))
   ends-refused loan (answers e d) some = absurd (some e)
 
-pub condition-1 : Condition1 ours
+pub condition-1 : Condition1 ourCard
+unfolding withOctet
 condition-1 =
     record {
+      octet-link-kept = λ card octet. refl;
+      octet-uncounted = λ card octet. refl;
       numbers = λ card loan. ends-number (gap-ends card loan);
       refused = λ card loan. ends-refused loan (gap-ends card loan);
-      empty-kept = λ card loan. ends-kept (gap-ends card loan) refl (λ z. omega arith);
-      unsound-kept = λ card loan. ends-kept (gap-ends card loan) refl (λ z. omega arith);
-      short-kept = λ card loan. ends-kept (gap-ends card loan) refl (λ z. omega arith);
     }
 
-pub counted : Counted ours
-unfolding withOctet
-counted = record { counts = λ card loan. ends-counted (gap-ends card loan); octets-uncounted = λ card octet. refl }
+pub counted : Counted ourCard
+counted = record { counts = λ card loan. ends-counted (gap-ends card loan) }

@@ -5,10 +5,10 @@ use mathlib.Core.Bool.{not}
 use mathlib.Core.List.{List, _++_}
 use mathlib.Core.Path.{_≡_, refl, ap, _∙_}
 use native.Mathlib.Omega.{arith}
-use borrow.Author.Tests.{eqb-false}
 use lib.Dec.{ltb, eqb}
 use lib.ListN.{length, take, drop, length-take}
 use lib.Seq.{take-at}
+use borrow.Author.Tests.{eqb-false}
 use Rattle.octets.proofs.Choice.{either}
 use Rattle.history.specs.Invariant.{Invariant}
 use Rattle.history.proofs.Invariant.{always, at-gaps}
@@ -26,12 +26,12 @@ use Rattle.link.specs.Answering.{answered}
 use Rattle.card.specs.declared.Card.{Card}
 use Rattle.card.specs.State.{cardAtPowerOn, withOctet, runGone, linkedBy}
 use Rattle.card.specs.Gap.{Outcome, refusal, octetsMeant, afterAnswer, afterExamining, gapped}
-use Rattle.tender.specs.Card.{Loan, outcomeAt, ours}
+use Rattle.tender.specs.Card.{Loan, outcomeAt, ours, ourCard}
 use Rattle.tender.specs.Condition2.{Condition2, meantAt, SoundReply, Lent, SoundReplies}
 use Rattle.tender.proofs.Writable.{CanWrite, Ready, AnswersReady, heard-short, power-on-ready, answered-ready}
 
-pub condition-2 : Condition2 ours
-condition-2 = record { as-defined = λ h. refl; left-as-defined = λ h. refl }
+pub condition-2 : Condition2 ourCard
+condition-2 = record { powers-on = refl; as-defined = λ h. refl; left-as-defined = λ h. refl }
 
 -- what a gap leaves, and with 0 what it replies
 record Told (meant : Meant) (o : Outcome) : Type 0 where
@@ -121,7 +121,7 @@ sound-at card loan lent ready e =
       gives-back = ap (judge sapr) stands ∙ meant-back (meantAt card loan) (told .1);
     }
 
-pub sound-replies : SoundReplies ours
+pub sound-replies : SoundReplies ourCard
 unfolding cardAtPowerOn
 sound-replies h fit =
     at-gaps ours (λ card loan known. sound-at card loan (known .0) (known .1)) cardAtPowerOn h

@@ -5,9 +5,9 @@ use mathlib.Core.Bool.{not, _||_}
 use mathlib.Core.List.{List, [], _∷_, _++_}
 use mathlib.Core.Path.{_≡_, refl, sym, ap, _∙_}
 use native.Mathlib.Omega.{arith}
-use borrow.Author.Tests.{ne-eqb, eqb-true}
 use lib.Dec.{eqb, ltb}
 use lib.ListN.{length, getD, set, length-set}
+use borrow.Author.Tests.{ne-eqb, eqb-true}
 use Rattle.octets.proofs.Choice.{either, if-both}
 use Rattle.octets.proofs.Numbers.{Octets}
 use Rattle.history.specs.History.{fed}
@@ -18,8 +18,8 @@ use Rattle.frame.specs.Family.{sapr}
 use Rattle.frame.specs.Frame.{Frame, Verdict, refused, sound, fixedForm, variableForm, startOf, sumRight, judge}
 use Rattle.frame.specs.Control.{offered}
 use Rattle.frame.proofs.OneOctet.{one-octet-changed}
-use Rattle.image.specs.Image.{soundImage}
 use Rattle.parts.specs.Answers.{headFound}
+use Rattle.image.specs.Image.{soundImage}
 use Rattle.line.specs.declared.Collector.{Collector}
 use Rattle.line.specs.declared.Heard.{Heard}
 use Rattle.line.specs.declared.Examined.{Examined}
@@ -35,7 +35,7 @@ use Rattle.card.specs.State.{cardAtPowerOn, collecting, withOctet, runGone, lin
 use Rattle.card.specs.Gap.{refusal, afterAnswer, afterExamining, gapped}
 use Rattle.card.specs.Gap as gap
 use Rattle.card.proofs.Gap.{examined-refused}
-use Rattle.tender.specs.Card.{Loan, ours, outcomeAt, seenOf}
+use Rattle.tender.specs.Card.{Loan, seenOf, outcomeAt, ours, ourCard}
 use Rattle.tender.specs.Condition3.{Fit, Noise, Alike, Mute, Condition3, OneOctetNoise}
 use Rattle.tender.proofs.Gaps.{fed-rested, fit-gap}
 
@@ -68,19 +68,20 @@ module _ (run image : List ℕ) (some : length run ≡ 0 → ⊥) where
     where
       by-verdict : (v : Verdict) → judge sapr run ≡ v → Damaged v → NotEmpty (examined (collectedAll emptied run) image)
       by-verdict (refused n) e d one = omega (arith, d .0, one, refused-number (collectedAll emptied run) image n (collected-verdict sapr run ∙ e))
-      by-verdict (sound f) e d one = frame-some image _ (ap (λ (x : Examined). numberOf (x .finding)) (ap (examinedVerdict image) (sym e) ∙ sym (run-only run image)) ∙ one)
+      by-verdict (sound f) e d one =
+          frame-some image _ (ap (λ (x : Examined). numberOf (x .finding)) (ap (examinedVerdict image) (sym e) ∙ sym (run-only run image)) ∙ one)
 
 -- a collector that a run has left
-record Left (c : Collector) : Type 0 where
-  run : List ℕ
-  by-run : c ≡ collectedAll emptied run
+pub record Left (c : Collector) : Type 0 where
+  pub run : List ℕ
+  pub by-run : c ≡ collectedAll emptied run
 
 collected-last : (run : List ℕ) (c : Collector) (x : ℕ) → collected (collectedAll c run) x ≡ collectedAll c (run ++ (x ∷ []))
 unfolding collectedAll
 collected-last [] c x = refl
 collected-last (y ∷ run) c x = collected-last run (collected c y) x
 
-left-none : Left emptied
+pub left-none : Left emptied
 unfolding collectedAll
 left-none = record { run = []; by-run = refl }
 
@@ -100,7 +101,7 @@ module _ (card : Card) (image clock : List ℕ) where
       either Rests (not (eqb (numberOf (x .finding)) 0)) (λ e. refl) (λ e. answer-rests (answered (card .link) (x .frame) image clock)))
 
 -- at a fit gap a card that a run has left comes to rest
-left-rests : (card : Card) (loan : Loan) {image clock : List ℕ} → Fit image clock loan → Left (card .collector) → Rests (outcomeAt card loan)
+pub left-rests : (card : Card) (loan : Loan) {image clock : List ℕ} → Fit image clock loan → Left (card .collector) → Rests (outcomeAt card loan)
 unfolding collectedAll
 left-rests card loan {image} {clock} f left =
     rw (fit-gap f card) (examining-rests card image clock (examined (card .collector) image) (λ one. by-octets (left .run) (left .by-run) one))
@@ -110,11 +111,15 @@ left-rests card loan {image} {clock} f left =
     by-octets [] e one = e
     by-octets (x ∷ run) e one = absurd (examined-some (x ∷ run) image (λ h. omega arith) (rw e at one))
 
-left-kept : (image clock : List ℕ) → Invariant ours (Fit image clock) (λ (card : Card). Left (card .collector))
+pub left-kept : (image clock : List ℕ) → Invariant ours (Fit image clock) (λ (card : Card). Left (card .collector))
 unfolding withOctet
 left-kept image clock =
     record {
-      symbols = λ card x left. record { run = left .run ++ (x ∷ []); by-run = ap (λ (c : Collector). collected c x) (left .by-run) ∙ collected-last (left .run) emptied x };
+      symbols = λ card x left.
+          record {
+            run = left .run ++ (x ∷ []);
+            by-run = ap (λ (c : Collector). collected c x) (left .by-run) ∙ collected-last (left .run) emptied x;
+          };
       gaps = λ card loan f left. rw (left-rests card loan f left) left-none;
       calls = λ card call left. absurd call;
     }
@@ -157,7 +162,8 @@ module _ (s t : Card) (a : Alike s t) where
   alike-gap loan =
       if-both AlikeOutcomes (ltb (length (loan .buffer)) 261) (λ e. alike-refusal 9 s t a) (λ e.
       if-both AlikeOutcomes (not (soundImage (loan .image))) (λ e. alike-refusal 8 s t a) (λ e.
-      rw (ap (λ (c : Collector). examined c (loan .image)) (a .collectors)) (alike-examining (examined (t .collector) (loan .image)) (loan .image) (loan .clock))))
+      rw (ap (λ (c : Collector). examined c (loan .image)) (a .collectors))
+      (alike-examining (examined (t .collector) (loan .image)) (loan .image) (loan .clock))))
 
 -- noise, and the number that refuses it
 record Refused (run : List ℕ) : Type 0 where
@@ -181,21 +187,24 @@ noise-gap card run loan {image} {clock} rest r f =
     let full = collecting (collectedAll emptied run) card in
     let number : numberOf (examined (collectedAll emptied run) image .finding) ≡ r .number =
     refused-number (collectedAll emptied run) image (r .number) (collected-verdict sapr run ∙ r .says) in
-    rw (fed-rested run card rest, fit-gap f full, examined-refused full (examined (collectedAll emptied run) image) image clock (λ e. omega (arith, e, number, r .low)) (λ e. omega (arith, e, number, r .low)), number)
+    let found = examined (collectedAll emptied run) image in
+    let refused = examined-refused full found image clock (λ e. omega (arith, e, number, r .low)) (λ e. omega (arith, e, number, r .low)) in
+    rw (fed-rested run card rest, fit-gap f full, refused, number)
 
 noise-mute : (card : Card) (run : List ℕ) (loan : Loan) {image clock : List ℕ} → card .collector ≡ emptied → Noise run → Fit image clock loan
     → Mute (ours .gap (fed ours card run) loan .answer)
 unfolding refusal
 noise-mute card run loan rest x f =
     let r = noise-refused run x in
-    rw (noise-gap card run loan rest r f) (record { not-0 = λ e. omega (arith, e, r .low); no-reply = refl; no-order = refl })
+    rw (noise-gap card run loan rest r f) (record { not-0 = λ e. omega (arith, e, r .low); no-reply = refl; no-order = refl; no-time = refl })
 
 noise-alike : (card : Card) (run : List ℕ) (loan : Loan) {image clock : List ℕ} → card .collector ≡ emptied → Noise run → Fit image clock loan
     → Alike card (ours .gap (fed ours card run) loan .state)
 unfolding refusal runGone
 noise-alike card run loan rest x f = rw (noise-gap card run loan rest (noise-refused run x) f) (record { collectors = rest; links = refl })
 
-deaf : (image clock : List ℕ) → Deaf ours (Fit image clock) Noise (λ (card : Card). Left (card .collector)) Alike (λ (card : Card). card .collector ≡ emptied) Mute
+deaf : (image clock : List ℕ)
+    → Deaf ours (Fit image clock) Noise (λ (card : Card). Left (card .collector)) Alike (λ (card : Card). card .collector ≡ emptied) Mute
 unfolding withOctet
 deaf image clock =
     record {
@@ -210,9 +219,12 @@ deaf image clock =
       noise-alike = λ card run loan rest x f. noise-alike card run loan rest x f;
     }
 
-pub condition-3 : Condition3 ours
+-- what the laws give: the noised history on our card is the quiet one on our card, which is the definition
+pub condition-3 : Condition3 ourCard
 unfolding cardAtPowerOn
-condition-3 image clock h h′ n = unnoticed (deaf image clock) n cardAtPowerOn (record { collectors = refl; links = refl }) left-none refl
+condition-3 image clock h h′ n =
+    let u = unnoticed (deaf image clock) n cardAtPowerOn (record { collectors = refl; links = refl }) left-none refl in
+    record { unanswered = u .unanswered; same = u .same; alike = u .alike }
 
 -- a sound frame with exactly one octet changed is such a run
 pub one-octet-noise : (run : List ℕ) → Octets run → (f : Frame) → judge sapr run ≡ sound f

@@ -5,9 +5,9 @@ use mathlib.Core.Bool.{not}
 use mathlib.Core.List.{List}
 use mathlib.Core.Path.{_≡_}
 use native.Mathlib.Omega.{arith}
-use borrow.Author.Tests.{eqb-true, eqb-false}
 use lib.Dec.{ltb, eqb}
 use lib.ListN.{length, getD}
+use borrow.Author.Tests.{eqb-true, eqb-false}
 use Rattle.octets.proofs.Choice.{either}
 use Rattle.frame.specs.Control.{offered}
 use Rattle.image.specs.Image.{soundImage}
@@ -18,7 +18,7 @@ use Rattle.link.specs.Answering.{answered}
 use Rattle.card.specs.declared.Card.{Card}
 use Rattle.card.specs.State.{linkedBy}
 use Rattle.card.specs.Gap.{Outcome, refusal, afterAnswer, afterExamining, gapped}
-use Rattle.tender.specs.Card.{Loan, ours}
+use Rattle.tender.specs.Card.{Loan, ours, ourCard}
 use Rattle.tender.specs.Condition2.{askedAt, CountBit}
 use Rattle.tender.proofs.Repeats.{answered-last}
 
@@ -42,11 +42,12 @@ module _ (card : Card) (image clock : List ℕ) (x : Examined) where
       either Last (eqb (numberOf (x .finding)) 1) (λ t e. absurd (omega (arith, e))) (λ t.
       either Last (not (eqb (numberOf (x .finding)) 0)) (λ t e. absurd (eqb-false _ _ (flipped _ _ t) e)) (λ t. answer-last))
 
-pub count-bit : CountBit ours
+pub count-bit : CountBit ourCard
 unfolding gapped refusal
 count-bit = record { becomes-last = at }
   where
-    at : (card : Card) (loan : Loan) → ours .gap card loan .answer .number ≡ 0 → (getD (askedAt card loan) 0 0 ≡ 0 → ⊥) → (getD (askedAt card loan) 0 0 ≡ 9 → ⊥)
+    at : (card : Card) (loan : Loan) → ours .gap card loan .answer .number ≡ 0
+        → (getD (askedAt card loan) 0 0 ≡ 0 → ⊥) → (getD (askedAt card loan) 0 0 ≡ 9 → ⊥)
         → ours .gap card loan .state .link .fcb ≡ getD (askedAt card loan) 1 0
     at card loan =
         let x = examined (card .collector) (loan .image) in

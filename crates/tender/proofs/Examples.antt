@@ -3,17 +3,26 @@
 use Prim.Native.Nat.{ℕ}
 use mathlib.Core.List.{List, [], _∷_}
 use lib.ListN.{set, replicate}
-use Rattle.history.specs.History.{answers, after, fed, closedRun}
-use Rattle.carrying.specs.declared.Order.{Order}
-use Rattle.carrying.specs.declared.Order.the-variants as order
+use Rattle.history.specs.History.{fed, closedRun}
 use Rattle.request.specs.declared.Session.{Session}
 use Rattle.request.specs.declared.Session.the-variants.{Closed, Open}
+use Rattle.carrying.specs.declared.Order.{Order}
+use Rattle.carrying.specs.declared.Order.the-variants as order
 use Rattle.link.specs.State.{powerOn}
 use Rattle.card.specs.declared.Card.{Card}
 use Rattle.card.specs.State.{cardAtPowerOn}
-use Rattle.tender.specs.Card.{Loan, Seen, AnyCard, History, ours}
-use Rattle.tender.specs.Cases.{smallest, lent, closedRuns, reset}
+use Rattle.tender.specs.Card.{Loan, Seen, History, endOf, ours, ourCard}
+use Rattle.tender.specs.Cases.{smallest, lent, reset, collect, password}
 use Rattle.tender.specs.Wrong.{repeater}
+
+-- runs, each closed by a gap
+abbrev pub closedRuns : List (List ℕ) → History
+closedRuns [] = []
+closedRuns (run ∷ runs) = closedRun run lent (closedRuns runs)
+
+-- collection with FCB 1
+abbrev pub asking : List ℕ
+asking = 0x10 ∷ 0x7B ∷ 0x01 ∷ 0x00 ∷ 0x7C ∷ 0x16 ∷ []
 
 -- noise: over 261 octets, not the form of a frame, a wrong checksum, a reset with one octet changed
 abbrev pub long : List ℕ
@@ -55,7 +64,7 @@ abbrev pub odd : Card
 odd = record { collector = record { octets = 1 ∷ replicate 260 0; length = 0 }; link = powerOn; damaged = 0 }
 
 abbrev pub ready : Card
-ready = after ours cardAtPowerOn quiet
+ready = endOf ourCard quiet
 
 -- 09, nothing to give: 10 09 01 00 0A 16
 abbrev pub nothingToGive : List ℕ
@@ -84,8 +93,8 @@ abbrev pub sessionNumber : Session → ℕ
 sessionNumber Closed = 0
 sessionNumber (Open point) = 1
 
-abbrev pub answersTo : AnyCard → List (List ℕ) → List Seen
-answersTo m runs = answers m cardAtPowerOn (closedRuns runs)
+abbrev pub sessionOf : Card → ℕ
+sessionOf card = sessionNumber (card .link .session)
 
 -- behind a concentrator: link address 2, point 1; a reset and the point's password
 abbrev pub behind : Loan
@@ -98,17 +107,23 @@ openedBehind =
     (0x68 ∷ 0x0D ∷ 0x0D ∷ 0x68 ∷ 0x73 ∷ 0x02 ∷ 0x00 ∷ 0xB7 ∷ 0x01 ∷ 0x06 ∷ 0x01 ∷ 0x00 ∷ 0x00 ∷ 0x78 ∷ 0x56 ∷ 0x34 ∷ 0x12 ∷ 0x48 ∷ 0x16 ∷ []) behind
     [])
 
--- a card that has it in its collector
+-- a card that has a changed reset in its collector, and one that has a malformed run
 abbrev pub changedCard : Card
 changedCard = fed ours cardAtPowerOn changed
+
+abbrev pub malformedCard : Card
+malformedCard = fed ours cardAtPowerOn malformed
 
 -- a buffer of ones
 abbrev pub ones : Loan
 ones = record { image = smallest; clock = lent .clock; buffer = replicate 261 1 }
 
--- with a run of one octet put in; and the card that only repeats, after the reset
+-- a reset, the password and its mirror; with a run of one octet put in; and the card that only repeats, after the reset
+abbrev pub opened : History
+opened = closedRuns (reset ∷ password ∷ collect ∷ [])
+
 abbrev pub oneOctetIn : History
-oneOctetIn = closedRuns (reset ∷ (0 ∷ []) ∷ [])
+oneOctetIn = closedRuns (reset ∷ (0 ∷ []) ∷ password ∷ collect ∷ [])
 
 abbrev pub afterFirst : Card
-afterFirst = after repeater cardAtPowerOn quiet
+afterFirst = endOf repeater quiet

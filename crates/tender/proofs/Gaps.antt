@@ -18,7 +18,7 @@ use Rattle.card.proofs.State.{octets-collected}
 use Rattle.card.proofs.Gap.{gap-examined}
 use Rattle.tender.specs.Card.{Loan, ours, outcomeAt}
 use Rattle.tender.specs.Condition3.{Fit}
-use Rattle.tender.proofs.Card.{octets-are-ours}
+use Rattle.tender.proofs.Tied.{octets-are-ours}
 
 pub fed-card : (run : List ℕ) (card : Card) → fed ours card run ≡ collecting (collectedAll (card .collector) run) card
 fed-card run card = sym (octets-are-ours run card) ∙ octets-collected run card

@@ -30,7 +30,8 @@ use Rattle.carrying.specs.declared.Waiting.the-variants.{Nothing, Mirror, Denie
 use Rattle.carrying.specs.declared.Pending.{Pending}
 use Rattle.carrying.specs.Carrying.{accepted, clockAfter, pendingAfter, carriedBy, carriedOut, nothingPending}
 use Rattle.giving.specs.declared.Next.{Next}
-use Rattle.giving.specs.Giving.{reply, lastly, nothingFound, readingType, dataPending, mirrorWith, identityFrom, datesFrom, clockFrom, dataFrom, afterData, beginWith, nextBy, nextOf}
+use Rattle.giving.specs.Giving.{reply, lastly, nothingFound, readingType, dataPending, mirrorWith, identityFrom}
+use Rattle.giving.specs.Giving.{datesFrom, clockFrom, dataFrom, afterData, beginWith, nextBy, nextOf}
 
 -- a message that a frame has room for
 abbrev pub Short : Message → Type 0

@@ -1,8 +1,11 @@
-pub mod Card
+pub mod Tied
 pub mod Condition1
 pub mod Lengths
 pub mod Writable
 pub mod Condition2
+pub mod RulesLink
+pub mod RulesCarried
+pub mod RulesWaiting
 pub mod Rules
 pub mod Gaps
 pub mod Condition3
@@ -14,3 +17,4 @@ pub mod Worked
 pub mod Noisy
 pub mod Cases
 pub mod Wrong
+pub mod Unruly

@@ -1,33 +1,27 @@
 -- Condition 3's hypotheses can be met: over document 01's smallest image, a reset with each kind of noise put in around it, and a
 -- frame received again. By computation, and by the laws that say of each kind that it is noise. Assumes nothing.
 use Prim.Native.Nat.{ℕ, zero, suc, _≤_}
-use mathlib.Core.Bool.{true}
+use mathlib.Core.Bool.{Bool, true}
 use mathlib.Core.List.{List, [], _∷_}
 use mathlib.Core.Path.{_≡_, refl, sym, ap, _∙_}
 use native.Mathlib.Omega.{arith}
 use lib.ListN.{getD, replicate, length-replicate}
-use Rattle.octets.specs.Conditions.{holds}
-use Rattle.octets.specs.Numbers.{lowFirst}
-use Rattle.octets.specs.Sum.{octetSum, checksum}
 use Rattle.octets.proofs.Numbers.{Octets}
-use Rattle.history.specs.History.{answers, after, fed}
-use Rattle.history.specs.Noise.{Noised, Deaf, Unnoticed}
+use Rattle.history.specs.History.{closedRun, AllFit}
+use Rattle.history.specs.Noise.{Noised, Deaf}
 use Rattle.history.specs.Noise as N
 use Rattle.frame.specs.Family.{sapr}
-use Rattle.frame.specs.Frame.{fixed, Verdict, refused, sound, sumRight, fixedForm, variableForm, startOf, saidFixed, said, judge}
-use Rattle.frame.specs.Control.{offered}
+use Rattle.frame.specs.Frame.{fixed, Verdict, refused, sound, judge}
 use Rattle.frame.proofs.Frame.{judge-empty, judge-long}
 use Rattle.line.specs.declared.Collector.{Collector}
-use Rattle.line.specs.Collecting.{emptied}
 use Rattle.card.specs.declared.Card.{Card}
-use Rattle.card.specs.State.{cardAtPowerOn}
-use Rattle.tender.specs.Card.{replyIn, ours}
-use Rattle.tender.specs.Condition3.{Fit, Noise, Alike, Mute, Counting, Again}
+use Rattle.tender.specs.Card.{replyIn, History, answersOf, endOf, received, ours, ourCard}
+use Rattle.tender.specs.Condition3.{Fit, Noise, Alike, Mute, Undisturbed, Counting, Again}
+use Rattle.tender.specs.Cases.{smallest, lent, reset}
 use Rattle.tender.proofs.Condition3.{condition-3, one-octet-noise}
 use Rattle.tender.proofs.Repeats.{repeats}
 use Rattle.tender.proofs.Smallest.{fit}
-use Rattle.tender.specs.Cases.{smallest, lent, reset, asking}
-use Rattle.tender.proofs.Examples.{long, malformed, spoiled, changed, quiet, noisy, ack, unanswered, odd, ready, nothingToGive}
+use Rattle.tender.proofs.Examples.{asking, long, malformed, spoiled, changed, quiet, noisy, ack, unanswered, odd, ready, nothingToGive}
 use Rattle.tender.proofs.Worked.{everything}
 
 -- a run that is refused, and not by 1, is noise
@@ -46,15 +40,15 @@ long-noise : Noise long
 long-noise = refused-noise _ 2 (judge-long sapr (replicate 262 0x10) (omega (arith, length-replicate {A = ℕ} 262 0x10))) (omega arith)
 
 malformed-noise : Noise malformed
-unfolding judge fixedForm variableForm holds
+unfolding everything
 malformed-noise = refused-noise _ 3 refl (omega arith)
 
 spoiled-noise : Noise spoiled
-unfolding judge fixedForm holds startOf sumRight checksum octetSum
+unfolding everything
 spoiled-noise = refused-noise _ 4 refl (omega arith)
 
 reset-sound : judge sapr reset ≡ sound (fixed 0x40 1)
-unfolding judge fixedForm holds startOf sumRight checksum octetSum said saidFixed lowFirst
+unfolding everything
 reset-sound = refl
 
 changed-noise : Noise changed
@@ -69,64 +63,68 @@ changed-noise = one-octet-noise reset octets (fixed 0x40 1) reset-sound 1 0x41 (
     octets (suc (suc (suc (suc (suc zero))))) = omega arith
     octets (suc (suc (suc (suc (suc (suc i)))))) = omega arith
 
+-- a run that is in both histories
+abbrev pub in-both : (run : List ℕ) {fresh : Bool} {h h′ : History} → Noised (Fit smallest (lent .clock)) Noise true h h′
+    → Noised (Fit smallest (lent .clock)) Noise fresh (closedRun run lent h) (closedRun run lent h′)
+in-both [] n = N.gap fit n
+in-both (octet ∷ run) n = N.symbol (in-both run n)
+
 pub put-in : Noised (Fit smallest (lent .clock)) Noise true quiet noisy
 put-in =
     N.noise long lent long-noise fit
     (N.noise malformed lent malformed-noise fit
-    (N.symbol (N.symbol (N.symbol (N.symbol (N.symbol (N.symbol
-    (N.gap fit (N.noise spoiled lent spoiled-noise fit (N.noise changed lent changed-noise fit N.end))))))))))
+    (in-both reset (N.noise spoiled lent spoiled-noise fit (N.noise changed lent changed-noise fit N.end))))
 
 -- what condition 3 says of it
-pub unheard : Unnoticed ours Alike Mute put-in cardAtPowerOn cardAtPowerOn
+pub unheard : Undisturbed ourCard put-in
 unheard = condition-3 smallest (lent .clock) quiet noisy put-in
 
-counting : Counting asking
-unfolding judge fixedForm holds startOf sumRight checksum octetSum said saidFixed lowFirst offered
+pub counting : Counting asking
+unfolding everything
 counting = record { frame = fixed 0x7B 1; is-sound = refl; not-reset = λ e. omega arith; not-status = λ e. omega arith }
 
 -- so, of all that the noisy history gets, the ACK is what is left
-quiet-answers : answers ours cardAtPowerOn quiet ≡ ack ∷ []
+quiet-answers : answersOf ourCard quiet ≡ ack ∷ []
 unfolding everything
 quiet-answers = refl
 
-pub ack-left : N.remaining put-in (answers ours cardAtPowerOn noisy) ≡ ack ∷ []
+pub ack-left : N.remaining put-in (answersOf ourCard noisy) ≡ ack ∷ []
 ack-left = unheard .same ∙ quiet-answers
 
 -- as it is when the noisy history is worked out: each run of noise gets its number, and counts as damaged
-pub noisy-answers : answers ours cardAtPowerOn noisy ≡ unanswered 2 ∷ unanswered 3 ∷ ack ∷ unanswered 4 ∷ unanswered 4 ∷ []
+pub noisy-answers : answersOf ourCard noisy ≡ unanswered 2 ∷ unanswered 3 ∷ ack ∷ unanswered 4 ∷ unanswered 4 ∷ []
 unfolding everything
 noisy-answers = refl
 
-pub quiet-count : after ours cardAtPowerOn quiet .damaged ≡ 0
+pub quiet-count : endOf ourCard quiet .damaged ≡ 0
 unfolding everything
 quiet-count = refl
 
-pub noisy-count : after ours cardAtPowerOn noisy .damaged ≡ 4
+pub noisy-count : endOf ourCard noisy .damaged ≡ 4
 unfolding everything
 noisy-count = refl
 
 -- and the frame received again gets the same, 09
-ready-empty : ready .collector ≡ emptied
-unfolding everything
-ready-empty = refl
-
-ready-answers : ours .gap (fed ours ready asking) lent .answer .number ≡ 0
+pub ready-answers : received ours ready asking lent .answer .number ≡ 0
 unfolding everything
 ready-answers = refl
 
-pub ready-reply : replyIn (ours .gap (fed ours ready asking) lent .answer) ≡ nothingToGive
+pub ready-reply : replyIn (received ours ready asking lent .answer) ≡ nothingToGive
 unfolding everything
 ready-reply = refl
 
-pub asked-again : Again ours ready asking lent lent
-asked-again = repeats smallest (lent .clock) ready asking lent lent ready-empty counting fit fit ready-answers
+pub quiet-fit : AllFit (Fit smallest (lent .clock)) quiet
+quiet-fit = (fit, tt)
+
+pub asked-again : Again (received ours ready asking lent) (received ours (received ours ready asking lent .state) asking lent) (lent .buffer)
+asked-again = repeats smallest (lent .clock) quiet asking lent lent quiet-fit refl counting fit fit ready-answers
 
 -- asked of every state, the laws do not hold of our card, whatever rest is: a gap with no run leaves the odd one as it came, noise does not
 odd-kept : ours .gap odd lent .state ≡ odd
 unfolding everything
 odd-kept = refl
 
-odd-noise : getD (ours .gap (fed ours odd malformed) lent .state .collector .octets) 0 0 ≡ 0
+odd-noise : getD (received ours odd malformed lent .state .collector .octets) 0 0 ≡ 0
 unfolding everything
 odd-noise = refl
 

@@ -2,24 +2,21 @@
 -- Answered, it leaves its FCB as the last and its reply as the remembered one, and that answers it again. Assumes nothing.
 use Prim.Native.Nat.{ℕ}
 use mathlib.Core.Bool.{Bool, false, true, not, _||_}
-use mathlib.Core.List.{List}
+use mathlib.Core.List.{List, [], _∷_}
 use mathlib.Core.Path.{_≡_, refl, sym, ap, _∙_}
 use native.Mathlib.Omega.{arith}
-use borrow.Author.Tests.{ne-eqb, eqb-true, eqb-false}
 use lib.Dec.{ltb, eqb}
 use lib.ListN.{length, getD, drop}
-use lib.Seq.{take-at}
+use lib.Seq.{take-at, drop-at}
+use borrow.Author.Tests.{ne-eqb, eqb-true, eqb-false}
 use Rattle.octets.proofs.Choice.{either}
-use Rattle.history.specs.History.{fed}
 use Rattle.address.specs.declared.LinkAddress.{LinkAddress}
+use Rattle.history.specs.History.{Symbol, Gap, Call, after, fed, AllFit}
 use Rattle.frame.specs.Family.{sapr}
 use Rattle.frame.specs.Frame.{Frame, sound, judge}
 use Rattle.frame.specs.Control.{offered}
 use Rattle.message.specs.declared.Message.{Message}
 use Rattle.parts.specs.Answers.{headFound}
-use Rattle.carrying.specs.Carrying.{isWaiting}
-use Rattle.giving.specs.declared.Next.{Next}
-use Rattle.giving.specs.Giving.{nextOf}
 use Rattle.line.specs.declared.Finding.the-variants.{Sound}
 use Rattle.line.specs.declared.Heard.{Heard}
 use Rattle.line.specs.declared.Examined.{Examined}
@@ -27,6 +24,9 @@ use Rattle.line.specs.Collecting.{emptied, collectedAll}
 use Rattle.line.specs.Examining.{heardOf, isLink, examinedFrame}
 use Rattle.line.proofs.Damage.{count-below}
 use Rattle.line.proofs.Hearing.{flipped}
+use Rattle.carrying.specs.Carrying.{isWaiting}
+use Rattle.giving.specs.declared.Next.{Next}
+use Rattle.giving.specs.Giving.{nextOf}
 use Rattle.link.specs.declared.Link.{Link}
 use Rattle.link.specs.declared.Deed.the-variants as deed
 use Rattle.link.specs.declared.Answered.{Answered}
@@ -34,13 +34,14 @@ use Rattle.link.specs.State.{remembering, inSession, awaiting}
 use Rattle.link.specs.Answering.{linkIn, refusedBy, replied, carried, noted, userData, given, collection, counted, answered}
 use Rattle.link.proofs.Answering.{with-last}
 use Rattle.card.specs.declared.Card.{Card}
-use Rattle.card.specs.State.{collecting, runGone, linkedBy}
+use Rattle.card.specs.State.{cardAtPowerOn, collecting, runGone, linkedBy}
 use Rattle.card.specs.Gap.{refusal, octetsMeant, afterAnswer, afterExamining}
 use Rattle.card.specs.Gap as gap
 use Rattle.card.proofs.Gap.{answer-replied, examined-sound}
-use Rattle.tender.specs.Card.{Loan, replyIn, ours, outcomeAt, seenOf}
-use Rattle.tender.specs.Condition3.{Fit, Repeats}
+use Rattle.tender.specs.Card.{Loan, replyIn, History, endOf, received, seenOf, outcomeAt, ours, ourCard}
+use Rattle.tender.specs.Condition3.{Fit, Counting, Again, endsFresh, Repeats}
 use Rattle.tender.proofs.Gaps.{rested-gap}
+use Rattle.tender.proofs.Condition3.{Left, left-none, left-rests, left-kept}
 
 -- what an answered frame of function 3 or 11 leaves: its FCB is the last, its reply the remembered one
 record Noted (bit : ℕ) (a : Answered) : Type 0 where
@@ -151,7 +152,14 @@ module _ {image clock : List ℕ} (run : List ℕ) (frame : Frame) (says : judge
   -- answered with a: the reply is a's, the link is as a leaves it, and all else of the card is as it was
   answered-gap : (card : Card) (loan : Loan) → Fit image clock loan → card .collector ≡ emptied
       → (a : Answered) → answered (card .link) (heardOf frame) image clock ≡ a → a .number ≡ 0
-      → outcomeAt (fed ours card run) loan ≡ record { number = 0; reply = octetsMeant (a .reply); order = a .order; time = a .time; card = record { collector = emptied; link = a .link; damaged = card .damaged } }
+      → outcomeAt (fed ours card run) loan
+      ≡ record {
+        number = 0;
+        reply = octetsMeant (a .reply);
+        order = a .order;
+        time = a .time;
+        card = record { collector = emptied; link = a .link; damaged = card .damaged };
+      }
   unfolding runGone linkedBy
   answered-gap card loan f rest a e zero =
       rw (sound-gap card loan f rest, e, answer-replied (collecting (collectedAll emptied run) card) a zero, count-below (card .damaged) 0 (omega arith))
@@ -160,9 +168,12 @@ module _ {image clock : List ℕ} (run : List ℕ) (frame : Frame) (says : judge
 reply-in : (o : gap.Outcome) (buffer : List ℕ) → replyIn (seenOf o buffer) ≡ o .reply
 reply-in o buffer = take-at (o .reply) (drop (length (o .reply)) buffer) (length (o .reply)) refl
 
-pub repeats : Repeats ours
+-- from any card with an empty collector
+pub repeats-from : (image clock : List ℕ) (card : Card) (run : List ℕ) (loan loan′ : Loan) → card .collector ≡ emptied → Counting run
+    → Fit image clock loan → Fit image clock loan′ → received ours card run loan .answer .number ≡ 0
+    → Again (received ours card run loan) (received ours (received ours card run loan .state) run loan′) (loan′ .buffer)
 unfolding replied
-repeats image clock card run loan loan′ rest counting f f′ zero =
+repeats-from image clock card run loan loan′ rest counting f f′ zero =
     let frame = counting .frame in
     let full = collecting (collectedAll emptied run) card in
     let t = taken full image clock (heardOf frame) (rw (rested-gap f card run rest (sound frame) (counting .is-sound)) at zero) in
@@ -171,12 +182,43 @@ repeats image clock card run loan loan′ rest counting f f′ zero =
     let a-0 : a .number ≡ 0 = answer-0 full image clock a (rw (sound-gap run frame (counting .is-sound) (t .as-sound) card loan f rest) at zero) in
     let first = answered-gap run frame (counting .is-sound) (t .as-sound) card loan f rest a refl a-0 in
     let left : Card = record { collector = emptied; link = a .link; damaged = card .damaged } in
-    let again = answered-gap run frame (counting .is-sound) (t .as-sound) left loan′ f′ refl (replied (a .reply) deed.Nothing (a .link)) (answered-again (heardOf frame) c image clock (card .link) a refl a-0) refl in
+    let repeated = answered-again (heardOf frame) c image clock (card .link) a refl a-0 in
+    let again = answered-gap run frame (counting .is-sound) (t .as-sound) left loan′ f′ refl (replied (a .reply) deed.Nothing (a .link)) repeated refl in
     let o = outcomeAt (fed ours card run) loan in
     let second = ap (λ (x : Card). outcomeAt (fed ours x run) loan′) (ap (λ (x : gap.Outcome). x .card) first) ∙ again in
+    let twice = outcomeAt (fed ours (o .card) run) loan′ in
     record {
-      same-number = ap (λ (x : gap.Outcome). x .number) second;
-      same-reply = reply-in (outcomeAt (fed ours (o .card) run) loan′) (loan′ .buffer) ∙ ap (λ (x : gap.Outcome). x .reply) second ∙ sym (ap (λ (x : gap.Outcome). x .reply) first) ∙ sym (reply-in o (loan .buffer));
+      answered = zero;
+      answered-again = ap (λ (x : gap.Outcome). x .number) second;
+      same-length = ap (λ (x : gap.Outcome). length (x .reply)) second ∙ sym (ap (λ (x : gap.Outcome). length (x .reply)) first);
+      same-reply =
+          reply-in twice (loan′ .buffer)
+          ∙ ap (λ (x : gap.Outcome). x .reply) second
+          ∙ sym (ap (λ (x : gap.Outcome). x .reply) first)
+          ∙ sym (reply-in o (loan .buffer));
+      rest-kept = drop-at (twice .reply) (drop (length (twice .reply)) (loan′ .buffer)) (length (twice .reply)) refl;
       no-order = ap (λ (x : gap.Outcome). x .order) second;
+      no-time = ap (λ (x : gap.Outcome). x .time) second;
       nothing-changes = ap (λ (x : gap.Outcome). x .card) second ∙ sym (ap (λ (x : gap.Outcome). x .card) first);
     }
+
+-- directly after a gap, or at the start, the collector is empty
+abbrev EmptyIf : Bool → Card → Type 0
+EmptyIf true card = card .collector ≡ emptied
+EmptyIf false card = Unit {0}
+
+fresh-empty : (image clock : List ℕ) (fresh : Bool) (card : Card) (h : History) → AllFit (Fit image clock) h → Left (card .collector)
+    → EmptyIf fresh card → endsFresh fresh h ≡ true → after ours card h .collector ≡ emptied
+unfolding after
+fresh-empty image clock fresh card [] fit left rest ends = rw ends at rest
+fresh-empty image clock fresh card (Symbol octet ∷ h) fit left rest ends =
+    fresh-empty image clock false (ours .symbol card octet) h fit (left-kept image clock .symbols card octet left) tt ends
+fresh-empty image clock fresh card (Gap loan ∷ h) fit left rest ends =
+    fresh-empty image clock true (ours .gap card loan .state) h (fit .1) (left-kept image clock .gaps card loan (fit .0) left)
+    (left-rests card loan (fit .0) left) ends
+fresh-empty image clock fresh card (Call none ∷ h) fit left rest ends = absurd none
+
+pub repeats : Repeats ourCard
+unfolding cardAtPowerOn
+repeats image clock h run loan loan′ fit ends counting f f′ zero =
+    repeats-from image clock (endOf ourCard h) run loan loan′ (fresh-empty image clock true cardAtPowerOn h fit left-none refl ends) counting f f′ zero

@@ -19,16 +19,19 @@ use Rattle.message.specs.Mirror.{mirror}
 use Rattle.message.specs.Table.{table, rowIn}
 use Rattle.records.specs.Records.{lengthOf, isWhole, walk, records, wholeAt, recordAt, recordsFrom, kindAt, placeAfter}
 use Rattle.records.specs.Said.{every, linked, keep, howMany, placesOf}
-use Rattle.parts.specs.Answers.{recordsOf, headFound, leading, pointsFrom, pointsOf, pointIn, pointFound, datesAt, datesPlace, datesFound, valueFound, eventFound}
+use Rattle.parts.specs.Answers.{recordsOf, headFound, leading, pointsFrom, pointsOf, pointIn}
+use Rattle.parts.specs.Answers.{pointFound, datesAt, datesPlace, datesFound, valueFound, eventFound}
 use Rattle.parts.specs.Key.{keyOf, keyAt}
-use Rattle.parts.specs.Parts.{numberAt, labelAAt, labelBAt, linkOf, dateOf, makerOf, productOf, pointOf, passwordOf, firstDate, secondDate, recordOf, readingLabel, valueOf, qualityOf, spaOf, spqOf, eventLabel}
+use Rattle.parts.specs.Parts.{numberAt, labelAAt, labelBAt, linkOf, dateOf, makerOf, productOf, pointOf, passwordOf}
+use Rattle.parts.specs.Parts.{firstDate, secondDate, recordOf, readingLabel, valueOf, qualityOf, spaOf, spqOf, eventLabel}
 use Rattle.image.specs.Image.{readingRecord, eventRecord, right, byPoint, readingBefore, eventBefore, inOrder, knows, soundImage}
 use Rattle.line.specs.Collecting.{emptied, overfull, isOverfull, collected, runOf, collectedAll}
 use Rattle.line.specs.Damage.{isDamaged, damagedAfter}
 use Rattle.line.specs.Examining.{verdictOf, examinedFrame, examined}
 use Rattle.asked.specs.Asked.{firstObject, lastObject, asksReadings, labelsFrom, firstLabel, lastLabel, spanOf, timeLabel, passwordIn}
 use Rattle.request.specs.Decide.{addressed, objectsRight, labelsValid, firstAfterLast, noneIn, byType, decide}
-use Rattle.carrying.specs.Carrying.{accepted, sessionAfter, orderAfter, timeAfter, waitingAfter, clockAfter, pendingAfter, carriedBy, carriedOut, nothingPending}
+use Rattle.carrying.specs.Carrying.{accepted, sessionAfter, orderAfter, timeAfter, waitingAfter}
+use Rattle.carrying.specs.Carrying.{clockAfter, pendingAfter, carriedBy, carriedOut, nothingPending}
 use Rattle.giving.specs.Giving.{reply, lastly, nothingFound, readingType, dataPending, mirrorWith, clockFrom, dataFrom, afterData, beginWith, nextOf}
 use Rattle.link.specs.Answering.{refusedBy, replied, deedOf, carried, noted, userData, given, collection, counted, resetBy, statusBy, answered}
 use Rattle.link.specs.State.{powerOn, afterReset, remembering, inSession, awaiting}
@@ -44,7 +47,8 @@ unfolding answers after fed
 of-history = tt
 
 unfoldable pub of-label : Unit {0}
-unfolding leap leapDay monthLength daysOfMonths daysToYear dayNumber dateTimeA validA instant beforeA millisecond second validB inMinute beforeB partsA partsB real minutes partsOf earlier
+unfolding leap leapDay monthLength daysOfMonths daysToYear dayNumber dateTimeA validA instant beforeA millisecond second validB inMinute beforeB
+    partsA partsB real minutes partsOf earlier
 of-label = tt
 
 unfoldable pub of-frame : Unit {0}
@@ -60,7 +64,9 @@ unfolding lengthOf isWhole walk records wholeAt recordAt recordsFrom kindAt plac
 of-records = tt
 
 unfoldable pub of-parts : Unit {0}
-unfolding recordsOf headFound leading pointsFrom pointsOf pointIn pointFound datesAt datesPlace datesFound valueFound eventFound keyOf keyAt numberAt labelAAt labelBAt linkOf dateOf makerOf productOf pointOf passwordOf firstDate secondDate recordOf readingLabel valueOf qualityOf spaOf spqOf eventLabel
+unfolding recordsOf headFound leading pointsFrom pointsOf pointIn pointFound datesAt datesPlace datesFound valueFound eventFound keyOf keyAt numberAt
+    labelAAt labelBAt linkOf dateOf makerOf productOf pointOf passwordOf firstDate secondDate recordOf readingLabel valueOf qualityOf spaOf spqOf
+    eventLabel
 of-parts = tt
 
 unfoldable pub of-image : Unit {0}

@@ -1,12 +1,13 @@
--- Any card: an octet function and a gap function on the card's types; and ours, which is what the contracts of the crate `card` say.
--- Assumes nothing.
+-- Any card: how it powers on, and what an octet and a gap do to it, on the card's types; and ours, which is what the contracts of the crate
+-- `card` say (`Tied`). Assumes nothing.
 use Prim.Native.Nat.{ℕ}
 use mathlib.Core.List.{List, _++_}
-use lib.ListN.{length, take, drop}
-use Rattle.history.specs.History.{Event, Machine}
+use lib.ListN.{length, take, drop, replicate}
+use Rattle.history.specs.History.{Event, Outcome, Machine, answers, after, fed}
 use Rattle.carrying.specs.declared.Order.{Order}
+use Rattle.carrying.specs.declared.Order.the-variants.{Nothing}
 use Rattle.card.specs.declared.Card.{Card}
-use Rattle.card.specs.State.{withOctet}
+use Rattle.card.specs.State.{cardAtPowerOn, withOctet}
 use Rattle.card.specs.Gap.{gapped}
 use Rattle.card.specs.Gap as gap
 
@@ -28,14 +29,42 @@ pub record Seen : Type 0 where
 abbrev pub replyIn : Seen → List ℕ
 replyIn seen = take (seen .count) (seen .buffer)
 
--- there are no calls but octets and gaps
-abbrev pub AnyCard : Type 0
-AnyCard = Machine Card ℕ Loan ⊥ Seen
+-- no time octets: ten zeros
+abbrev pub noTime : List ℕ
+noTime = replicate 10 0
+
+-- what a card's calls do. There are none but octets and gaps
+abbrev pub Calls : Type 0
+Calls = Machine Card ℕ Loan ⊥ Seen
+
+-- any card: how it powers on, and what its calls do
+pub record AnyCard : Type 0 where
+  pub powerOn : Card
+  pub calls : Calls
 
 abbrev pub History : Type 0
 History = List (Event ℕ Loan ⊥)
 
--- ours
+-- what a card answers to a history from its power-on, and the card at its end
+abbrev pub answersOf : AnyCard → History → List Seen
+answersOf c h = answers (c .calls) (c .powerOn) h
+
+abbrev pub endOf : AnyCard → History → Card
+endOf c h = after (c .calls) (c .powerOn) h
+
+-- a run is received: its octets are put in, and the gap comes
+abbrev pub received : Calls → Card → List ℕ → Loan → Outcome Card Seen
+received m card run loan = m .gap (fed m card run) loan
+
+-- a card is left, and a number and a reply are seen, in the first octets of the buffer; the rest of it is unchanged, and there is no order
+abbrev pub says : Card → ℕ → List ℕ → List ℕ → Outcome Card Seen
+says card number reply buffer =
+    record {
+      state = card;
+      answer = record { number = number; count = length reply; order = Nothing; time = noTime; buffer = reply ++ drop (length reply) buffer };
+    }
+
+-- ours: the definition
 abbrev pub seenOf : gap.Outcome → List ℕ → Seen
 seenOf o buffer =
     record {
@@ -49,10 +78,13 @@ seenOf o buffer =
 abbrev pub outcomeAt : Card → Loan → gap.Outcome
 outcomeAt card loan = gapped card (loan .image) (loan .clock) (length (loan .buffer))
 
-abbrev pub ours : AnyCard
+abbrev pub ours : Calls
 ours =
     record {
       symbol = withOctet;
       gap = λ card loan. record { state = outcomeAt card loan .card; answer = seenOf (outcomeAt card loan) (loan .buffer) };
       call = λ card call. absurd call;
     }
+
+abbrev pub ourCard : AnyCard
+ourCard = record { powerOn = cardAtPowerOn; calls = ours }

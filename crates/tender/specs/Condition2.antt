@@ -1,10 +1,12 @@
--- Condition 2. "The card reads and answers as SD1 and document 01 say. Every reply is a sound frame and, read by the same frame rules, gives
--- back the message that the definition says was meant." Assumes nothing.
+-- Condition 2. "The card reads and answers as Terna's SAPR-AdM document (SD1) and document 01 say: frame, count bit, session, order of
+-- refusals, readings chosen by number only. Every reply is a sound frame, and read by the same frame rules it gives back the message that the
+-- definition says was meant." The first sentence is `Condition2`, and its count bit once more, by itself, `CountBit`; the second is `SoundReplies`.
+-- Assumes nothing.
 use Prim.Native.Nat.{ℕ, _≤_, _<_}
 use mathlib.Core.List.{List}
 use mathlib.Core.Path.{_≡_}
 use lib.ListN.{length, getD}
-use Rattle.history.specs.History.{answers, after, AllFit}
+use Rattle.history.specs.History.{AllFit}
 use Rattle.history.specs.Invariant.{AtGaps}
 use Rattle.frame.specs.Control.{offered}
 use Rattle.frame.specs.Family.{sapr}
@@ -15,20 +17,23 @@ use Rattle.link.specs.declared.Meant.{Meant}
 use Rattle.link.specs.Answering.{answered}
 use Rattle.card.specs.declared.Card.{Card}
 use Rattle.card.specs.State.{cardAtPowerOn}
-use Rattle.tender.specs.Card.{Loan, replyIn, AnyCard, History, ours}
+use Rattle.tender.specs.Card.{Loan, replyIn, Calls, AnyCard, History, answersOf, endOf, ourCard}
 
--- at every history from power-on, with any images, clocks and buffers lent gap by gap, outcomes and states are the definition's
-pub record Condition2 (m : AnyCard) : Type 0 where
-  pub as-defined : (h : History) → answers m cardAtPowerOn h ≡ answers ours cardAtPowerOn h
-  pub left-as-defined : (h : History) → after m cardAtPowerOn h ≡ after ours cardAtPowerOn h
+-- it powers on as document 01 says, and at every history from there, with any images, clocks and buffers lent gap by gap, it answers what
+-- the definition answers and is left as the definition leaves it
+pub record Condition2 (c : AnyCard) : Type 0 where
+  pub powers-on : c .powerOn ≡ cardAtPowerOn
+  pub as-defined : (h : History) → answersOf c h ≡ answersOf ourCard h
+  pub left-as-defined : (h : History) → endOf c h ≡ endOf ourCard h
 
 -- the reply that the definition says is meant at a gap: with the last FCB the remembered one, else a new one, which carries the link address
 -- of the image lent
 abbrev pub meantAt : Card → Loan → Meant
 meantAt card loan = answered (card .link) (examined (card .collector) (loan .image) .frame) (loan .image) (loan .clock) .reply
 
--- every reply is a sound frame of at most 261 octets, and judged by the same rules gives back what was meant
-pub record SoundReply (m : AnyCard) (card : Card) (loan : Loan) : Type 0 where
+-- every reply is a sound frame of at most 261 octets, and judged by the same rules gives back what was meant. Where there is one is said by
+-- `Condition2`
+pub record SoundReply (m : Calls) (card : Card) (loan : Loan) : Type 0 where
   pub at-most-261 : m .gap card loan .answer .count ≤ 261
   pub gives-back : judge sapr (replyIn (m .gap card loan .answer)) ≡ sound (replyFrame (meantAt card loan .reply) (meantAt card loan .link))
 
@@ -38,15 +43,18 @@ pub record Lent (loan : Loan) : Type 0 where
   pub seven : length (loan .clock) ≡ 7
 
 abbrev pub SoundReplies : AnyCard → Type 0
-SoundReplies m =
-    (h : History) → AllFit Lent h → AtGaps m (λ (card : Card) (loan : Loan). m .gap card loan .answer .number ≡ 0 → SoundReply m card loan) cardAtPowerOn h
+SoundReplies c =
+    (h : History) → AllFit Lent h
+    → AtGaps (c .calls) (λ (card : Card) (loan : Loan). c .calls .gap card loan .answer .number ≡ 0 → SoundReply (c .calls) card loan) (c .powerOn) h
 
--- the count bit: an answered frame of function 3 or 11, neither reset nor status, leaves its FCB the last
+-- the count bit: an answered frame of function 3 or 11, neither reset nor status, leaves its FCB the last. Which is answered is said by
+-- condition 1's numbers
 abbrev pub askedAt : Card → Loan → List ℕ
 askedAt card loan =
     let frame = examined (card .collector) (loan .image) .frame in
     offered (frame .form) (frame .control) .values
 
-pub record CountBit (m : AnyCard) : Type 0 where
-  pub becomes-last : (card : Card) (loan : Loan) → m .gap card loan .answer .number ≡ 0 → (getD (askedAt card loan) 0 0 ≡ 0 → ⊥) → (getD (askedAt card loan) 0 0 ≡ 9 → ⊥)
-      → m .gap card loan .state .link .fcb ≡ getD (askedAt card loan) 1 0
+pub record CountBit (c : AnyCard) : Type 0 where
+  pub becomes-last : (card : Card) (loan : Loan) → c .calls .gap card loan .answer .number ≡ 0
+      → (getD (askedAt card loan) 0 0 ≡ 0 → ⊥) → (getD (askedAt card loan) 0 0 ≡ 9 → ⊥)
+      → c .calls .gap card loan .state .link .fcb ≡ getD (askedAt card loan) 1 0

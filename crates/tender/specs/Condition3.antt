@@ -1,26 +1,26 @@
--- Condition 3. "Over any history from power-on (one sound image, one clock, full-size buffer), inserting non-empty runs that are not sound
--- frames, each closed by a gap, directly after a gap or at the start, changes no other reply, no order, and not the link and session at the
--- end; none of them is answered; only the count of damaged runs may differ. A sound frame with exactly one octet changed is such a run. An
--- answered data or collection frame received again as the next run gets the same reply, gives no order, changes nothing." Assumes nothing.
+-- Condition 3. "Take any history of octets and gaps from power-on, with one sound image, one clock reading throughout and a reply buffer of full
+-- size. Directly after a gap, or at the start, insert one or more non-empty runs that are not sound frames, each closed by a gap. No inserted run
+-- is answered. All other replies and orders, and the link and session at the end, are those that the definition in 2 gives for the history
+-- without them; only the count of damaged runs may differ. A sound frame with exactly one octet changed is always such a run. An answered data
+-- or collection frame, received again as the next run, gets the same reply, gives no order and changes nothing."
+-- The first four sentences are `Condition3`, the fifth is `OneOctetNoise`, the last is `Repeats`. Assumes nothing.
 use Prim.Native.Nat.{ℕ, _≤_, _<_}
-use mathlib.Core.Bool.{true}
-use mathlib.Core.List.{List}
+use mathlib.Core.Bool.{Bool, true, false}
+use mathlib.Core.List.{List, [], _∷_}
 use mathlib.Core.Path.{_≡_}
-use lib.ListN.{length, getD, set}
-use Rattle.history.specs.History.{fed}
-use Rattle.history.specs.Noise.{Noised, Unnoticed}
+use lib.ListN.{length, getD, drop, set}
+use Rattle.history.specs.History.{Symbol, Gap, Call, Outcome, AllFit, Each}
+use Rattle.history.specs.Noise.{Noised, inserted, remaining}
 use Rattle.frame.specs.Family.{sapr}
 use Rattle.frame.specs.Frame.{Frame, sound, judge}
 use Rattle.frame.specs.Control.{offered}
 use Rattle.image.specs.Image.{soundImage}
-use Rattle.carrying.specs.declared.Order.the-variants.{Nothing}
-use Rattle.line.specs.Collecting.{emptied}
 use Rattle.line.specs.Examining.{heardOf}
+use Rattle.carrying.specs.declared.Order.the-variants.{Nothing}
 use Rattle.card.specs.declared.Card.{Card}
-use Rattle.card.specs.State.{cardAtPowerOn}
-use Rattle.tender.specs.Card.{Loan, Seen, replyIn, AnyCard, History}
+use Rattle.tender.specs.Card.{Loan, Seen, replyIn, noTime, AnyCard, History, answersOf, endOf, received, ours, ourCard}
 
--- one sound image, one clock, a full-size buffer
+-- one sound image, one clock reading, a reply buffer of full size
 pub record Fit (image clock : List ℕ) (loan : Loan) : Type 0 where
   pub sound-image : soundImage image ≡ true
   pub one-image : loan .image ≡ image
@@ -32,22 +32,31 @@ pub record Noise (run : List ℕ) : Type 0 where
   pub some : length run ≡ 0 → ⊥
   pub not-sound : (f : Frame) → judge sapr run ≡ sound f → ⊥
 
--- equal but for the count
+-- the same link and session, and the same run so far; only the count of damaged runs may differ
 pub record Alike (s t : Card) : Type 0 where
   pub collectors : s .collector ≡ t .collector
   pub links : s .link ≡ t .link
 
--- not answered
+-- not answered: no reply, no order. That the buffer is untouched is condition 1's `Refused`
 pub record Mute (seen : Seen) : Type 0 where
   pub not-0 : seen .number ≡ 0 → ⊥
   pub no-reply : seen .count ≡ 0
   pub no-order : seen .order ≡ Nothing
+  pub no-time : seen .time ≡ noTime
+
+-- `n` says how h′ is h with runs of noise put in: h′ is what the card hears, h is what the definition is asked about
+pub record Undisturbed (c : AnyCard) {image clock : List ℕ} {h h′ : History} (n : Noised (Fit image clock) Noise true h h′) : Type 0 where
+  -- no inserted run is answered
+  pub unanswered : Each Mute (inserted n (answersOf c h′))
+  -- all other replies and orders are those that the definition gives for the history without them
+  pub same : remaining n (answersOf c h′) ≡ answersOf ourCard h
+  -- and so are the link and session at the end
+  pub alike : Alike (endOf ourCard h) (endOf c h′)
 
 abbrev pub Condition3 : AnyCard → Type 0
-Condition3 m =
-    (image clock : List ℕ) (h h′ : History) (n : Noised (Fit image clock) Noise true h h′) → Unnoticed m Alike Mute n cardAtPowerOn cardAtPowerOn
+Condition3 c = (image clock : List ℕ) (h h′ : History) (n : Noised (Fit image clock) Noise true h h′) → Undisturbed c n
 
--- a sound frame with exactly one octet changed is such a run
+-- a sound frame with exactly one octet changed is always such a run
 abbrev pub OneOctetNoise : Type 0
 OneOctetNoise =
     (run : List ℕ) (f : Frame) (place new : ℕ) → ((i : ℕ) → getD run i 0 < 256) → judge sapr run ≡ sound f → place < length run → new < 256
@@ -60,14 +69,33 @@ pub record Counting (run : List ℕ) : Type 0 where
   pub not-reset : getD (offered (heardOf frame .form) (heardOf frame .control) .values) 0 0 ≡ 0 → ⊥
   pub not-status : getD (offered (heardOf frame .form) (heardOf frame .control) .values) 0 0 ≡ 9 → ⊥
 
--- what receiving it again does, from the card that the first one left
-pub record Again (m : AnyCard) (card : Card) (run : List ℕ) (loan loan′ : Loan) : Type 0 where
-  pub same-number : m .gap (fed m (m .gap (fed m card run) loan .state) run) loan′ .answer .number ≡ 0
-  pub same-reply : replyIn (m .gap (fed m (m .gap (fed m card run) loan .state) run) loan′ .answer) ≡ replyIn (m .gap (fed m card run) loan .answer)
-  pub no-order : m .gap (fed m (m .gap (fed m card run) loan .state) run) loan′ .answer .order ≡ Nothing
-  pub nothing-changes : m .gap (fed m (m .gap (fed m card run) loan .state) run) loan′ .state ≡ m .gap (fed m card run) loan .state
+-- what two receptions of one frame do, one after the other, the second with this buffer lent
+pub record Again (first second : Outcome Card Seen) (buffer : List ℕ) : Type 0 where
+  pub answered : first .answer .number ≡ 0
+  pub answered-again : second .answer .number ≡ 0
+  -- it gets the same reply, in the first octets of the buffer, the rest unchanged
+  pub same-length : second .answer .count ≡ first .answer .count
+  pub same-reply : replyIn (second .answer) ≡ replyIn (first .answer)
+  pub rest-kept : drop (second .answer .count) (second .answer .buffer) ≡ drop (second .answer .count) buffer
+  -- gives no order
+  pub no-order : second .answer .order ≡ Nothing
+  pub no-time : second .answer .time ≡ noTime
+  -- and changes nothing
+  pub nothing-changes : second .state ≡ first .state
 
+-- whether a history ends directly after a gap, or is at its start; `fresh` says it of the place where it begins
+abbrev pub endsFresh : Bool → History → Bool
+endsFresh fresh [] = fresh
+endsFresh fresh (Symbol octet ∷ h) = endsFresh false h
+endsFresh fresh (Gap loan ∷ h) = endsFresh true h
+endsFresh fresh (Call none ∷ h) = endsFresh fresh h
+
+-- after any history that ends so: a data or collection frame that the definition answers is answered, and received again as the next run it
+-- gets what `Again` says
 abbrev pub Repeats : AnyCard → Type 0
-Repeats m =
-    (image clock : List ℕ) (card : Card) (run : List ℕ) (loan loan′ : Loan) → card .collector ≡ emptied → Counting run → Fit image clock loan
-    → Fit image clock loan′ → m .gap (fed m card run) loan .answer .number ≡ 0 → Again m card run loan loan′
+Repeats c =
+    (image clock : List ℕ) (h : History) (run : List ℕ) (loan loan′ : Loan)
+    → AllFit (Fit image clock) h → endsFresh true h ≡ true → Counting run → Fit image clock loan → Fit image clock loan′
+    → received ours (endOf ourCard h) run loan .answer .number ≡ 0
+    → (let first = received (c .calls) (endOf c h) run loan in
+    Again first (received (c .calls) (first .state) run loan′) (loan′ .buffer))

@@ -1,6 +1,9 @@
 pub mod Card
+pub mod Tied
 pub mod Condition1
 pub mod Condition2
 pub mod Condition3
+pub mod Rules
 pub mod Cases
 pub mod Wrong
+pub mod Unruly

@@ -1,35 +1,32 @@
--- Wrong cards: those that document 01 names, and others that a tired engineer could write.
+-- Wrong cards: those that document 01 names, others that a tired engineer could write, and others that looser conditions let through.
 -- Assumes nothing.
 use Prim.Native.Nat.{ℕ, _-_}
-use mathlib.Core.List.{List, [], _∷_, _++_}
+use mathlib.Core.Bool.{_&&_}
+use mathlib.Core.List.{[], _∷_, _++_}
 use lib.Dec.{eqb}
-use lib.ListN.{length, getD, take, drop, replicate, set}
+use lib.ListN.{length, getD, take, replicate, set}
 use Rattle.octets.specs.Choice.{if_then_else_}
 use Rattle.history.specs.History.{Outcome}
+use Rattle.request.specs.declared.Session.the-variants.{Closed, Open}
 use Rattle.carrying.specs.declared.Order.the-variants.{Nothing, Clock}
-use Rattle.link.specs.State.{inSession, remembering}
+use Rattle.link.specs.declared.Link.{Link}
+use Rattle.link.specs.State.{powerOn, afterReset, remembering, inSession}
 use Rattle.card.specs.declared.Card.{Card}
-use Rattle.card.specs.State.{withOctet, linkedBy}
+use Rattle.card.specs.State.{cardAtPowerOn, collecting, withOctet, linkedBy}
 use Rattle.card.specs.Gap.{octetsMeant}
-use Rattle.tender.specs.Card.{Loan, Seen, AnyCard, ours}
+use Rattle.tender.specs.Card.{Loan, Seen, AnyCard, says, ours}
 
--- a card with our octet function and another gap function
+-- a card with our power-on and our octet function, and another gap function
 abbrev pub withGap : (Card → Loan → Outcome Card Seen) → AnyCard
-withGap gap = record { symbol = withOctet; gap = gap; call = ours .call }
+withGap gap = record { powerOn = cardAtPowerOn; calls = record { symbol = withOctet; gap = gap; call = ours .call } }
 
-abbrev pub says : Card → ℕ → List ℕ → List ℕ → Outcome Card Seen
-says card number reply buffer =
-    record {
-      state = card;
-      answer =
-          record {
-            number = number;
-            count = length reply;
-            order = Nothing;
-            time = replicate 10 0;
-            buffer = reply ++ drop (length reply) buffer;
-          };
-    }
+-- and one with our power-on and our gap function, and another octet function
+abbrev pub withSymbol : (Card → ℕ → Card) → AnyCard
+withSymbol symbol = record { powerOn = cardAtPowerOn; calls = record { symbol = symbol; gap = ours .gap; call = ours .call } }
+
+-- and one that does what ours does, but powers on with another link
+abbrev pub withLink : Link → AnyCard
+withLink link = record { powerOn = linkedBy link cardAtPowerOn; calls = ours }
 
 -- always refuses
 abbrev pub refuser : AnyCard
@@ -49,6 +46,35 @@ repeater =
     withGap (λ card loan.
     if card .link .reset then says card 0 (octetsMeant (card .link .remembered)) (loan .buffer) else
     ours .gap card loan)
+
+-- the same, but polite: it repeats at frames that ours answers, and leaves all else to ours, so that noise goes unanswered. A condition 3 that
+-- compares a card's noised history with the card's own quiet one, and not with the definition's, lets it through
+abbrev pub politeRepeater : AnyCard
+politeRepeater =
+    withGap (λ card loan.
+    if card .link .reset && eqb (ours .gap card loan .answer .number) 0
+    then says (linkedBy (card .link) (ours .gap card loan .state)) 0 (octetsMeant (card .link .remembered)) (loan .buffer)
+    else ours .gap card loan)
+
+-- never answers, and hears nothing. The same looser condition 3 lets it through; and so does a `Repeats` of the frames that the card itself
+-- answers, for lack of one
+abbrev pub stone : AnyCard
+stone =
+    record {
+      powerOn = cardAtPowerOn;
+      calls = record { symbol = λ card octet. card; gap = λ card loan. says card 3 [] (loan .buffer); call = ours .call };
+    }
+
+-- counts as reset at power-on; has a session open at power-on. Conditions over histories from our power-on, whatever the card's, let both through
+abbrev pub resetter : AnyCard
+resetter = withLink (afterReset (powerOn .remembered) powerOn)
+
+abbrev pub opener : AnyCard
+opener = withLink (inSession (Open (record { 0 = 1 })) powerOn)
+
+-- an octet closes the session. A condition 1 of gaps alone lets it through
+abbrev pub closer : AnyCard
+closer = withSymbol (λ card octet. linkedBy (inSession Closed (card .link)) (withOctet card octet))
 
 -- what ours does, and then something else to the card
 abbrev pub leaving : (Card → Loan → Seen → Card → Card) → AnyCard
@@ -73,6 +99,10 @@ stumbler =
     leaving (λ card loan seen left.
     if eqb (seen .number) 4 then linkedBy (remembering (1 - card .link .fcb) (card .link .remembered) (left .link)) left else
     left)
+
+-- a run that is not the form of a frame stays in the collector. A condition 1 without `run-gone` lets it through
+abbrev pub hoarder : AnyCard
+hoarder = leaving (λ card loan seen left. if eqb (seen .number) 3 then collecting (card .collector) left else left)
 
 -- what ours answers, but for a part of it
 abbrev pub butSays : (Loan → Seen → Seen) → AnyCard
@@ -102,6 +132,12 @@ setter =
       time = seen .time;
       buffer = seen .buffer;
     })
+
+-- ten ones for time octets, also where there is no order. Condition 1 and `Repeats` without `no-time`, and the looser condition 3, let it through
+abbrev pub babbler : AnyCard
+babbler =
+    butSays (λ loan seen.
+    record { number = seen .number; count = seen .count; order = seen .order; time = replicate 10 1; buffer = seen .buffer })
 
 -- the link address is taken for the point's: it stands in the image where the first point's should
 abbrev pub mistaker : AnyCard

@@ -82,7 +82,7 @@ module _ {M : Type 1} (𝓤 : URA M) (H : Heap 𝓤) (A : Atoms 𝓤) (W : Given
   exits : n < 2 ^ 8 → (r : Collector) → r ≡ spec.collected h n → ent 𝓤 (sep 𝓤 (A .obs γ (R .coded .code r)) (sep 𝓤 (A .bor κ (Body (mem R) b o γ)) (A .lft κ q))) (Post vunit)
   exits fits r e =
       qed W (‵ (fobs γ (R .coded .code r)) ∷ ‵ (fbor κ (Body (mem R) b o γ)) ∷ ‵ (flft κ q) ∷ []) ∵
-      suffices ! _ (ends-at 𝓤 H A collect.ended stayed (collect.clauses 𝓤 H A at-mem run) W (((κ, tt), (q, tt), tt, x, at), tt) vunit tt (r, (tt, tt)) (tt, (tt, tt))) $ says ! e $ nothing ! $ move ! (3 ∷ 0 ∷ []) $ join ! $
+      suffices ! _ (ends-at 𝓤 H A collect.ended stayed (collect.clauses 𝓤 H A at-mem run) W (((κ, tt), (q, tt), tt, x, at), tt) vunit tt (r, (tt, tt)) (tt, (tt, tt))) $ says ! (record { leaves = e }) $ nothing ! $ move ! (3 ∷ 0 ∷ []) $ join ! $
       frame ! $ feqI ! (List Val) (vptr b o ∷ []) (vptr b o ∷ []) refl $ fjoin3 ! $ nothing ! $ owned ! u8 (Is u8) (uint-makes 𝓤 H A W w8) n _ (refl, fits) $ fjoin ! $ move ! (1 ∷ 0 ∷ []) $ fjoin ! $
       feqI ! (List Val) (vunit ∷ []) (vunit ∷ []) refl $ move ! (1 ∷ 0 ∷ []) $ done !
 

@@ -1,4 +1,4 @@
--- `runs` answers run after run, until the input ends.
+-- `runs` takes turn after turn, until the input ends.
 -- The run number grows to its limit; the space keeps its length. Assumes nothing.
 use Prim.Native.Nat.{_-_}
 use mathlib.Core.Path.{_≡_}
@@ -8,13 +8,10 @@ use Rattle.print.proofs.runs.Statement.{statement}
 use Rattle.print.proofs.runs.Tie as tie
 
 abbrev Inv-loop : tie.InvT-loop
-Inv-loop image clock space₀ card₀ window₀ number₀ space card window number = length space ≡ length space₀
+Inv-loop head space₀ card₀ window₀ number₀ space card window number = length space ≡ length space₀
 
 abbrev μ-loop : tie.MeasureT-loop
-μ-loop image clock space₀ card₀ window₀ number₀ space card window number = 18446744073709551615 - number
-
-power-on-requires : tie.Need-power-on-requires Inv-loop μ-loop
-power-on-requires c κs = search needs
+μ-loop head space₀ card₀ window₀ number₀ space card window number = 18446744073709551615 - number
 
 loop-holds : tie.Need-loop-holds Inv-loop μ-loop
 loop-holds c = search needs
@@ -34,8 +31,8 @@ run-size-requires c κs = search needs
 part-requires : tie.Need-part-requires Inv-loop μ-loop
 part-requires c κs = search needs
 
-turn-requires : tie.Need-turn-requires Inv-loop μ-loop
-turn-requires c κs = search needs
+step-requires : tie.Need-step-requires Inv-loop μ-loop
+step-requires c κs = search needs
 
 taken-requires : tie.Need-taken-requires Inv-loop μ-loop
 taken-requires c κs = search needs
@@ -64,14 +61,13 @@ runs-spec =
     (tie.spec
     Inv-loop
     μ-loop
-    power-on-requires
     loop-holds
     add-number
     read-run-requires
     seen-requires
     run-size-requires
     part-requires
-    turn-requires
+    step-requires
     taken-requires
     loop-less
     loop-again

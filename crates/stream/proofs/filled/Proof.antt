@@ -43,7 +43,9 @@ returns-2 c =
     let front = c .before .before .before .before .before .before .to-front in
     let more = c .before .before .read-on .ensures in
     let count = ap (λ (l : List ℕ). length l) (seen .ensures) in
-    filled-behind (a .space .now) (a .window) _ _ (front .last .0) _ count (front .ensures) (more .0) (more .1) (more .2)
+    let few = c .before .before .before .before .before .before .before .before .before .before in
+    filled-behind (a .space .now) (a .window) _ _ _ (front .last .0) _ (told (few .before .has .ensures) (few .if1 .left)) count
+    (front .ensures) (more .0) (more .1) (more .2)
 
 pub filled-spec : {M : Type 1} → statement M
 filled-spec =

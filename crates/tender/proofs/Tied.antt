@@ -1,0 +1,41 @@
+-- What the contracts of the crate `card` allow is what ours does, result, buffer and card left: every theorem about ours is about the code.
+-- By the contracts' equations. Assumes nothing.
+use Prim.Native.Nat.{ℕ}
+use mathlib.Core.List.{List, [], _∷_}
+use mathlib.Core.Path.{_≡_, refl, _∙_}
+use denote.Ref.{now}
+use Rattle.history.specs.History.{fed}
+use Rattle.card.specs.declared.Card.{Card}
+use Rattle.card.specs.declared.Gone.{Gone}
+use Rattle.card.specs.State.{withOctet, withOctets}
+use Rattle.card.specs.Gap.{goneBy, Gapped}
+use Rattle.card.proofs.Card.gap.Reads as card-gap
+use Rattle.card.proofs.Card.power_on.Reads as card-power-on
+use Rattle.card.proofs.Card.octet.Reads as card-octet
+use Rattle.card.proofs.Card.octets.Reads as card-octets
+use Rattle.tender.specs.Card.{Loan, outcomeAt, ours}
+use Rattle.tender.specs.Tied.{outcomeBy, PowerOnTied, OctetTied, OctetsTied, GapTied}
+
+pub power-on-tied : PowerOnTied card-power-on.Post
+power-on-tied κs r s allowed = allowed
+
+pub octet-tied : OctetTied card-octet.Post
+octet-tied κs card octet r s allowed = allowed
+
+pub octets-are-ours : (run : List ℕ) (card : Card) → withOctets card run ≡ fed ours card run
+unfolding withOctets fed
+octets-are-ours [] card = refl
+octets-are-ours (octet ∷ run) card = octets-are-ours run (withOctet card octet)
+
+pub octets-tied : OctetsTied card-octets.Post
+octets-tied κs card octets r s allowed = allowed ∙ octets-are-ours (now octets) card
+
+gap-is-ours : (card : Card) (loan : Loan) (gone : Gone) (left : List ℕ) → Gapped (outcomeAt card loan) (loan .buffer) gone left
+    → outcomeBy gone left ≡ ours .gap card loan
+unfolding goneBy
+gap-is-ours card loan gone left g = rw (g .returns, g .leaves)
+
+-- the buffer is the fourth argument: `s` has them as they are at exit
+pub gap-tied : GapTied (λ κs s. now (s .1 .1 .1 .0)) card-gap.Post
+gap-tied κs card image clock buffer gone s allowed =
+    gap-is-ours card (record { image = now image; clock = clock; buffer = now buffer }) gone (now (s .1 .1 .1 .0)) allowed

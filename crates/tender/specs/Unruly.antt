@@ -1,0 +1,72 @@
+-- Unruly cards: each does what ours does but for one thing, which a rule of `Rules` forbids.
+-- Assumes nothing.
+use Prim.Native.Nat.{ℕ}
+use mathlib.Core.Bool.{Bool, _||_}
+use lib.Dec.{eqb}
+use lib.ListN.{getD}
+use Rattle.octets.specs.Choice.{if_then_else_}
+use Rattle.request.specs.declared.Session.{Session}
+use Rattle.request.specs.declared.Session.the-variants.{Closed}
+use Rattle.carrying.specs.declared.Order.the-variants.{Clock}
+use Rattle.carrying.specs.Carrying.{nothingPending}
+use Rattle.link.specs.State.{inSession, awaiting}
+use Rattle.card.specs.declared.Card.{Card}
+use Rattle.card.specs.State.{linkedBy}
+use Rattle.card.specs.Gap.{octetsMeant}
+use Rattle.tender.specs.Card.{Calls, says, ours}
+use Rattle.tender.specs.Wrong.{withGap, leaving}
+use Rattle.tender.specs.Rules.{nothingToGive}
+
+-- an octet of the run: at 1 a fixed frame has C, at 7 a variable one the type of its message
+abbrev pub octetAt : ℕ → Card → ℕ
+octetAt i card = getD (card .collector .octets) i 0
+
+-- a collection, of either FCB
+abbrev pub isCollection : Card → Bool
+isCollection card = eqb (octetAt 1 card) 0x5B || eqb (octetAt 1 card) 0x7B
+
+abbrev pub withSession : Session → Card → Card
+withSession session card = linkedBy (inSession session (card .link)) card
+
+-- a status closes the session
+abbrev pub closingAtStatus : Calls
+closingAtStatus = leaving (λ card loan seen left. if eqb (octetAt 1 card) 0x49 then withSession Closed left else left) .calls
+
+-- a NACK, whose control octet stands in the buffer, drops what waits
+abbrev pub droppingAtNack : Calls
+droppingAtNack =
+    leaving (λ card loan seen left. if eqb (getD (seen .buffer) 1 0) 0x01 then linkedBy (awaiting nothingPending (left .link)) left else left) .calls
+
+-- a collection gets 09, whatever waits
+abbrev pub givingNothing : Calls
+givingNothing =
+    withGap (λ card loan.
+    if isCollection card then says (ours .gap card loan .state) 0 (octetsMeant (nothingToGive loan)) (loan .buffer) else
+    ours .gap card loan)
+    .calls
+
+-- a 181 sets the clock, also when it is repeated
+abbrev pub orderingAgain : Calls
+orderingAgain =
+    withGap (λ card loan.
+    let x = ours .gap card loan in
+    record {
+      state = x .state;
+      answer =
+          record {
+            number = x .answer .number;
+            count = x .answer .count;
+            order = if eqb (octetAt 7 card) 181 then Clock else x .answer .order;
+            time = x .answer .time;
+            buffer = x .answer .buffer;
+          };
+    })
+    .calls
+
+-- a 187 leaves the session open
+abbrev pub stayingOpen : Calls
+stayingOpen = leaving (λ card loan seen left. if eqb (octetAt 7 card) 187 then withSession (card .link .session) left else left) .calls
+
+-- a collection closes the session
+abbrev pub closingAtCollection : Calls
+closingAtCollection = leaving (λ card loan seen left. if isCollection card then withSession Closed left else left) .calls

@@ -1,0 +1,96 @@
+-- `turn` writes the text of a run.
+-- By what the run is found to be. Assumes nothing.
+use borrow.Author.Needs.{needs}
+use Rattle.input.specs.declared.Run.the-variants as run
+use Rattle.turns.specs.Printed.{afterRun}
+use Rattle.turns.proofs.Turning.{run-turned, run-answered}
+use Rattle.turns.proofs.turn.Statement.{statement}
+use Rattle.turns.proofs.turn.Tie as tie
+
+judge-run-requires : tie.Need-judge-run-requires
+judge-run-requires c κs = search needs
+
+enum-told : tie.Need-enum-told
+enum-told c = search needs
+
+slice-aggregate-said : tie.Need-slice-aggregate-said
+slice-aggregate-said c = search needs
+
+said-requires : tie.Need-said-requires
+said-requires c κs = search needs
+
+enum-told-2 : tie.Need-enum-told-2
+enum-told-2 c = search needs
+
+slice-aggregate-said-2 : tie.Need-slice-aggregate-said-2
+slice-aggregate-said-2 c = search needs
+
+said-requires-2 : tie.Need-said-requires-2
+said-requires-2 c κs = search needs
+
+enum-told-3 : tie.Need-enum-told-3
+enum-told-3 c = search needs
+
+part-requires : tie.Need-part-requires
+part-requires c κs = search needs
+
+octets-requires : tie.Need-octets-requires
+octets-requires c κs = search needs
+
+answer-requires : tie.Need-answer-requires
+answer-requires c κs = search needs
+
+unless-0-requires : tie.Need-unless-0-requires
+unless-0-requires c κs = search needs
+
+same-length : tie.Need-same-length
+same-length c = search needs
+
+returns : tie.Need-returns
+unfolding afterRun
+returns c =
+    let found = c .before .before .before .before .before in
+    run-turned _ _ _ _ _ run.End (found .before .before .judge-run .ensures) (found .enum-told .given .1) (c .before .before .said .ensures)
+
+same-length-2 : tie.Need-same-length-2
+same-length-2 c = search needs
+
+returns-2 : tie.Need-returns-2
+unfolding afterRun
+returns-2 c =
+    let found = c .before .before .before .before .before in
+    run-turned _ _ _ _ _ run.Cut (found .before .before .judge-run .ensures) (found .enum-told2 .given .1) (c .before .before .said2 .ensures)
+
+same-length-3 : tie.Need-same-length-3
+same-length-3 c = search needs
+
+returns-3 : tie.Need-returns-3
+returns-3 c =
+    let answered = c .before .before .before in
+    let put = answered .before .before in
+    let found = put .before .before in
+    run-answered _ _ _ _ _ (found .before .before .judge-run .ensures) (found .enum-told3 .given .1) (put .before .part .ensures) (put .octets .ensures)
+    (answered .answer .ensures) (c .unless-0 .ensures)
+
+pub turn-spec : {M : Type 1} → statement M
+turn-spec =
+    tie.close
+    (tie.spec
+    judge-run-requires
+    enum-told
+    slice-aggregate-said
+    said-requires
+    enum-told-2
+    slice-aggregate-said-2
+    said-requires-2
+    enum-told-3
+    part-requires
+    octets-requires
+    answer-requires
+    unless-0-requires
+    same-length
+    returns
+    same-length-2
+    returns-2
+    same-length-3
+    returns-3)

@@ -1,0 +1,4 @@
+pub mod Printed
+pub mod Turned
+pub mod Telling
+pub mod Steps
