@@ -19,7 +19,7 @@ from slips import TABLE as SLIPS, rests_on
 
 CRATES, CONTRACTS, READING = ROOT / "crates", ROOT / "docs" / "CONTRACTS.md", ROOT / "docs" / "READING.md"
 WORKED_OUT = ("parts/specs/Key", "image/specs/Keys", "choice/specs/Keys", "request/specs/ByType")
-PROGRAMS = ("input", "stream", "printing", "turns")
+PROGRAMS = ("input", "stream", "printing", "turns", "driving")
 
 
 class Call:

@@ -21,6 +21,10 @@ dash = 45 ∷ []
 abbrev pub newline : List ℕ
 newline = 10 ∷ []
 
+-- the last line where the input is cut: cut
+abbrev pub cutLine : List ℕ
+cutLine = 99 ∷ 117 ∷ 116 ∷ newline
+
 -- an order: -, clock or dates
 abbrev pub word : Order → List ℕ
 word Nothing = dash

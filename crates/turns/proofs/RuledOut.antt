@@ -20,9 +20,9 @@ use Rattle.input.specs.declared.Head.the-variants as head
 use Rattle.input.specs.declared.Run.{Run}
 use Rattle.input.specs.declared.Run.the-variants as run
 use Rattle.input.specs.Input.{headOf, runOf}
-use Rattle.printing.specs.Line.{lineOf}
+use Rattle.printing.specs.Line.{cutLine, lineOf}
 use Rattle.turns.specs.declared.Left.{Left}
-use Rattle.turns.specs.Printed.{Turn, lastTurn, cutLine, afterHead, headTurn, lineTurn, gapTurn, afterRun, runTurn}
+use Rattle.turns.specs.Printed.{Turn, lastTurn, afterHead, headTurn, lineTurn, gapTurn, afterRun, runTurn}
 use Rattle.turns.specs.Turned.{fitting, leftBy, Turned}
 use Rattle.turns.proofs.Turning.{whole, stands, refused, kept}
 use Rattle.turns.proofs.start.Reads as start

@@ -13,17 +13,14 @@ use Rattle.input.specs.declared.Head.the-variants as head
 use Rattle.input.specs.declared.Run.{Run}
 use Rattle.input.specs.declared.Run.the-variants as run
 use Rattle.input.specs.Input.{headOf, headSize, imageIn, clockIn, runOf, runSize}
-use Rattle.printing.specs.Line.{newline, lineOf}
+use Rattle.printing.specs.Line.{cutLine, newline, lineOf}
 
--- the fixed words, each on a line of its own: version, image, cut
+-- the fixed words, each on a line of its own: version, image; and cut (`printing`)
 abbrev pub versionLine : List ℕ
 versionLine = 118 ∷ 101 ∷ 114 ∷ 115 ∷ 105 ∷ 111 ∷ 110 ∷ newline
 
 abbrev pub imageLine : List ℕ
 imageLine = 105 ∷ 109 ∷ 97 ∷ 103 ∷ 101 ∷ newline
-
-abbrev pub cutLine : List ℕ
-cutLine = 99 ∷ 117 ∷ 116 ∷ newline
 
 -- what a turn does: the text that it gives, the card after it, whether a run may follow
 pub record Turn : Type 0 where

@@ -14,8 +14,8 @@ Inv-loop space₀ image₀ buffer₀ bench₀ number₀ space image buffer bench
 abbrev μ-loop : tie.MeasureT-loop
 μ-loop space₀ image₀ buffer₀ bench₀ number₀ space image buffer bench number = 18446744073709551615 - number
 
-power-on-requires : tie.Need-power-on-requires Inv-loop μ-loop
-power-on-requires c κs = search needs
+start-requires : tie.Need-start-requires Inv-loop μ-loop
+start-requires c κs = search needs
 
 loop-holds : tie.Need-loop-holds Inv-loop μ-loop
 loop-holds c = search needs
@@ -62,7 +62,7 @@ calls-spec =
     (tie.spec
     Inv-loop
     μ-loop
-    power-on-requires
+    start-requires
     loop-holds
     add-number
     turn-requires

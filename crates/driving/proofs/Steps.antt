@@ -1,0 +1,125 @@
+-- Step after step comes to the definition: what is written for an input is the text of its first call and what is written for the rest of it; and
+-- what a step and the image's space leave is the bench that the next call meets.
+-- Each call takes one octet or more, so the length of what is left is fuel enough. Assumes nothing.
+use Prim.Native.Nat.{ℕ, zero, suc, _+_, _*_, _≤_}
+use mathlib.Core.List.{List, [], _∷_, _++_}
+use mathlib.Core.Path.{_≡_, refl, sym, ap, _∙_}
+use native.Mathlib.Omega.{arith}
+use borrow.Author.Tests.{le-leb}
+use lib.ListN.{length, take, drop, length-append, length-take, length-drop}
+use lib.Seq.{take-append-seam}
+use Rattle.octets.specs.Choice.{if_then_else_}
+use Rattle.octets.specs.Over.{fitsAt}
+use Rattle.octets.proofs.Choice.{if-both}
+use Rattle.octets.proofs.Over.{over-first}
+use Rattle.carrying.specs.declared.Order.{Order}
+use Rattle.card.specs.Gap.{gapped}
+use Rattle.input.specs.declared.Call.{Call}
+use Rattle.input.specs.declared.Call.the-variants as call
+use Rattle.input.specs.Input.{callSize, callOf}
+use Rattle.printing.specs.Text.{decimal, pairs}
+use Rattle.printing.specs.Line.{space, newline, beginning, timeText, gapLine}
+use Rattle.printing.proofs.Text.{pairs-length}
+use Rattle.printing.proofs.Lines.{short-gap}
+use Rattle.driving.specs.declared.Held.{Held}
+use Rattle.driving.specs.declared.Left.{Left}
+use Rattle.driving.specs.Driven.{Bench, withImage, withClock, withRoom, withCard, withBuffer, imageOf}
+use Rattle.driving.specs.Driven.{repliedIn, lineStep, gapStep, afterCall, callStep, firstCall, behindCall, stepsText}
+use Rattle.driving.specs.Stepped.{benchOf, heldOf, Stepped, Stood, ImageAfter}
+use Rattle.driving.proofs.Calls.{call-one, image-most}
+
+-- nothing is written where nothing is left
+steps-none : (fuel : ℕ) (b : Bench) (rest : List ℕ) → length rest ≤ 0 → stepsText fuel b rest ≡ []
+unfolding stepsText callStep callOf callSize afterCall
+steps-none zero b rest h = refl
+steps-none (suc fuel) b [] h = refl
+steps-none (suc fuel) b (octet ∷ rest) h = absurd (omega arith)
+
+-- any fuel that is as long as what is left is enough
+pub steps-same : (fuel other : ℕ) (b : Bench) (rest : List ℕ) → length rest ≤ fuel → length rest ≤ other → stepsText fuel b rest ≡ stepsText other b rest
+unfolding stepsText
+steps-same zero other b rest h k = sym (steps-none other b rest h)
+steps-same (suc fuel) zero b rest h k = steps-none (suc fuel) b rest k
+steps-same (suc fuel) (suc other) b rest h k =
+    let s = callStep b (firstCall rest) in
+    let one = call-one rest in
+    let less = length-drop (callSize rest) rest in
+    ap (λ (l : List ℕ). s .text ++ l)
+    (if-both _≡_ (s .more) (λ _. steps-same fuel other (s .bench) (behindCall rest) (omega arith) (omega arith)) (λ _. refl))
+
+-- so the texts are those of the first call and of those behind it
+pub steps-next : (b : Bench) (rest : List ℕ)
+    → stepsText (length rest) b rest
+    ≡ callStep b (firstCall rest) .text
+    ++ (if callStep b (firstCall rest) .more then stepsText (length (behindCall rest)) (callStep b (firstCall rest) .bench) (behindCall rest) else [])
+unfolding stepsText
+steps-next b rest =
+    let s = callStep b (firstCall rest) in
+    steps-same (length rest) (suc (length rest)) b rest (omega arith) (omega arith)
+    ∙ ap (λ (l : List ℕ). s .text ++ l)
+    (if-both _≡_ (s .more)
+    (λ _. steps-same (length rest) (length (behindCall rest)) (s .bench) (behindCall rest) (omega (arith, length-drop (callSize rest) rest)) (omega arith))
+    (λ _. refl))
+
+-- an image that fits its space stands there
+stood-image : {space image left : List ℕ} {had count : ℕ} → length image ≤ length space → Stood space had image count left → take count left ≡ image
+unfolding fitsAt
+stood-image {space} {image} fits p =
+    let test = le-leb (0 + length image) (length space) (omega arith) in
+    rw (rw test at (p .counts), rw (test, over-first) at (p .leaves)) (take-append-seam image (drop (length image) space))
+
+-- the image that the next call meets
+image-next : (x : Call) (b : Bench) (octets space : List ℕ) (had count : ℕ) (left : List ℕ) → b .image ≡ take had space
+    → (x ≡ call.Image → length (imageOf octets) ≤ length space) → ImageAfter x space had octets count left
+    → take count left ≡ afterCall x b octets .bench .image
+unfolding ImageAfter afterCall withImage withClock withRoom withCard withBuffer gapStep lineStep
+image-next call.Image b octets space had count left e fits p = stood-image (fits refl) p
+image-next call.End b octets space had count left e fits p = rw (p .0, p .1) (sym e)
+image-next call.Cut b octets space had count left e fits p = rw (p .0, p .1) (sym e)
+image-next call.Wrong b octets space had count left e fits p = rw (p .0, p .1) (sym e)
+image-next call.Clock b octets space had count left e fits p = rw (p .0, p .1) (sym e)
+image-next call.Room b octets space had count left e fits p = rw (p .0, p .1) (sym e)
+image-next call.Octets b octets space had count left e fits p = rw (p .0, p .1) (sym e)
+image-next call.Gap b octets space had count left e fits p = rw (p .0, p .1) (sym e)
+
+-- the bench that the next call meets, of an image that fits its space
+pub bench-next : {under buffer′ left : List ℕ} {r : Left} (held : Held) (space buffer octets : List ℕ) (had count : ℕ) (space′ : List ℕ)
+    → (callOf octets ≡ call.Image → length (imageOf octets) ≤ length space)
+    → Stepped under (callStep (benchOf held (take had space) buffer) octets) r buffer′ left
+    → ImageAfter (callOf octets) space had octets count space′
+    → benchOf (r .held) (take count space′) buffer′ ≡ callStep (benchOf held (take had space) buffer) octets .bench
+unfolding benchOf heldOf callStep
+bench-next held space buffer octets had count space′ fits p i =
+    let b : Bench = benchOf held (take had space) buffer in
+    rw (p .holds, p .leaves, image-next (callOf octets) b octets space had count space′ refl fits i)
+
+-- the program's space, of 65,600 octets, has room for every image that is lent
+pub image-fits : (rest : List ℕ) → callOf (firstCall rest) ≡ call.Image → length (imageOf (firstCall rest)) ≤ 65600
+image-fits rest e = omega (arith, image-most rest e, length-take (callSize rest) rest, length-drop 4 (firstCall rest))
+
+-- the line of a gap is short
+line-length : (number count : ℕ) (order : Order) (time : List ℕ) (damaged : ℕ) (buffer : List ℕ)
+    → length (gapLine number count order time damaged buffer) ≤ 91 + length buffer * 2
+unfolding gapLine
+line-length number count order time damaged buffer =
+    let front = beginning number count order ++ space ++ timeText order time ++ space ++ decimal damaged ++ space in
+    let short : length front ≤ 90 = short-gap number count order time damaged refl refl refl refl refl refl .least in
+    omega (arith, length-append (front ++ pairs [] buffer) newline, length-append front (pairs [] buffer), pairs-length [] buffer)
+
+-- so the program's 1,024 octets have room for every text
+text-call : (x : Call) (b : Bench) (octets : List ℕ) → length (afterCall x b octets .bench .buffer) ≤ 300 → length (afterCall x b octets .text) ≤ 1024
+unfolding afterCall gapStep lineStep withCard withBuffer
+text-call call.End b octets h = omega arith
+text-call call.Cut b octets h = omega arith
+text-call call.Wrong b octets h = omega arith
+text-call call.Image b octets h = omega arith
+text-call call.Clock b octets h = omega arith
+text-call call.Room b octets h = omega arith
+text-call call.Octets b octets h = omega arith
+text-call call.Gap b octets h =
+    let o = gapped (b .card) (b .image) (b .clock) (length (take (b .room) (b .buffer))) in
+    omega (arith, line-length (o .number) (length (o .reply)) (o .order) (o .time) (o .card .damaged) (repliedIn (o .reply) (b .buffer)))
+
+pub text-fits : (b : Bench) (octets : List ℕ) → length (callStep b octets .bench .buffer) ≤ 300 → length (callStep b octets .text) ≤ 1024
+unfolding callStep
+text-fits b octets h = text-call (callOf octets) b octets h

@@ -1,0 +1,172 @@
+-- `step` does a call.
+-- By what the call is found to be. Assumes nothing.
+use mathlib.Core.Path.{sym, _∙_}
+use borrow.Author.Needs.{needs}
+use Rattle.input.specs.declared.Call.the-variants as call
+use Rattle.driving.specs.Driven.{withImage, withClock, withRoom, withCard, afterCall}
+use Rattle.driving.specs.Stepped.{benchOf, heldOf, heldCard, heldClock, heldRoom}
+use Rattle.driving.proofs.Stepping.{clock-whole, last-stepped, silent-stepped, call-stepped}
+use Rattle.driving.proofs.step.Statement.{statement}
+use Rattle.driving.proofs.step.Tie as tie
+
+judge-call-requires : tie.Need-judge-call-requires
+judge-call-requires c κs = search needs
+
+enum-told : tie.Need-enum-told
+enum-told c = search needs
+
+slice-aggregate-last : tie.Need-slice-aggregate-last
+slice-aggregate-last c = search needs
+
+last-requires : tie.Need-last-requires
+last-requires c κs = search needs
+
+enum-told-2 : tie.Need-enum-told-2
+enum-told-2 c = search needs
+
+slice-aggregate-last-2 : tie.Need-slice-aggregate-last-2
+slice-aggregate-last-2 c = search needs
+
+last-requires-2 : tie.Need-last-requires-2
+last-requires-2 c κs = search needs
+
+enum-told-3 : tie.Need-enum-told-3
+enum-told-3 c = search needs
+
+slice-aggregate-last-3 : tie.Need-slice-aggregate-last-3
+slice-aggregate-last-3 c = search needs
+
+last-requires-3 : tie.Need-last-requires-3
+last-requires-3 c κs = search needs
+
+enum-told-4 : tie.Need-enum-told-4
+enum-told-4 c = search needs
+
+silent-requires : tie.Need-silent-requires
+silent-requires c κs = search needs
+
+enum-told-5 : tie.Need-enum-told-5
+enum-told-5 c = search needs
+
+with-clock-requires : tie.Need-with-clock-requires
+with-clock-requires c κs = search needs
+
+enum-told-6 : tie.Need-enum-told-6
+enum-told-6 c = search needs
+
+with-room-requires : tie.Need-with-room-requires
+with-room-requires c κs = search needs
+
+enum-told-7 : tie.Need-enum-told-7
+enum-told-7 c = search needs
+
+with-octets-requires : tie.Need-with-octets-requires
+with-octets-requires c κs = search needs
+
+enum-told-8 : tie.Need-enum-told-8
+enum-told-8 c = search needs
+
+gap-requires : tie.Need-gap-requires
+gap-requires c κs = search needs
+
+same-length : tie.Need-same-length
+same-length c = search needs
+
+returns : tie.Need-returns
+unfolding afterCall
+returns c =
+    call-stepped _ _ call.End (c .before .before .before .before .before .before .before .judge-call .ensures)
+    (c .before .before .before .before .before .enum-told .given .1) (last-stepped _ _ _ (c .before .before .last .ensures))
+
+same-length-2 : tie.Need-same-length-2
+same-length-2 c = search needs
+
+returns-2 : tie.Need-returns-2
+unfolding afterCall
+returns-2 c =
+    call-stepped _ _ call.Cut (c .before .before .before .before .before .before .before .judge-call .ensures)
+    (c .before .before .before .before .before .enum-told2 .given .1) (last-stepped _ _ _ (c .before .before .last2 .ensures))
+
+same-length-3 : tie.Need-same-length-3
+same-length-3 c = search needs
+
+returns-3 : tie.Need-returns-3
+unfolding afterCall
+returns-3 c =
+    call-stepped _ _ call.Wrong (c .before .before .before .before .before .before .before .judge-call .ensures)
+    (c .before .before .before .before .before .enum-told3 .given .1) (last-stepped _ _ _ (c .before .before .last3 .ensures))
+
+returns-4 : tie.Need-returns-4
+unfolding afterCall benchOf heldOf withImage
+returns-4 c =
+    call-stepped _ _ call.Image (c .before .before .before .judge-call .ensures) (c .before .enum-told4 .given .1)
+    (silent-stepped _ (c .silent .ensures))
+
+returns-5 : tie.Need-returns-5
+unfolding afterCall benchOf heldOf withClock heldClock
+returns-5 c =
+    let found = sym (c .before .before .before .judge-call .ensures) ∙ c .before .enum-told5 .given .1 in
+    call-stepped _ _ call.Clock (c .before .before .before .judge-call .ensures) (c .before .enum-told5 .given .1)
+    (silent-stepped _ (rw (clock-whole _ found) at (c .with-clock .ensures)))
+
+returns-6 : tie.Need-returns-6
+unfolding afterCall benchOf heldOf withRoom heldRoom
+returns-6 c =
+    call-stepped _ _ call.Room (c .before .before .before .judge-call .ensures) (c .before .enum-told6 .given .1)
+    (silent-stepped _ (c .with-room .ensures))
+
+returns-7 : tie.Need-returns-7
+unfolding afterCall benchOf heldOf withCard heldCard
+returns-7 c =
+    call-stepped _ _ call.Octets (c .before .before .before .judge-call .ensures) (c .before .enum-told7 .given .1)
+    (silent-stepped _ (c .with-octets .ensures))
+
+same-length-4 : tie.Need-same-length-4
+same-length-4 c = search needs
+
+same-length-5 : tie.Need-same-length-5
+same-length-5 c = search needs
+
+returns-8 : tie.Need-returns-8
+unfolding afterCall
+returns-8 c =
+    call-stepped _ _ call.Gap (c .before .before .before .before .before .before .before .before .before .judge-call .ensures)
+    (c .before .before .before .before .before .before .before .enum-told8 .given .1) (c .before .before .before .before .gap .ensures)
+
+pub step-spec : {M : Type 1} → statement M
+step-spec =
+    tie.close
+    (tie.spec
+    judge-call-requires
+    enum-told
+    slice-aggregate-last
+    last-requires
+    enum-told-2
+    slice-aggregate-last-2
+    last-requires-2
+    enum-told-3
+    slice-aggregate-last-3
+    last-requires-3
+    enum-told-4
+    silent-requires
+    enum-told-5
+    with-clock-requires
+    enum-told-6
+    with-room-requires
+    enum-told-7
+    with-octets-requires
+    enum-told-8
+    gap-requires
+    same-length
+    returns
+    same-length-2
+    returns-2
+    same-length-3
+    returns-3
+    returns-4
+    returns-5
+    returns-6
+    returns-7
+    same-length-4
+    same-length-5
+    returns-8)

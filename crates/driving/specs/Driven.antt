@@ -1,0 +1,121 @@
+-- What the driving program writes for a whole input: octets in, octets out, call after call. second/README.md, "The driving face".
+-- Assumes nothing.
+use Prim.Native.Nat.{ℕ, zero, suc}
+use mathlib.Core.Bool.{Bool, true, false}
+use mathlib.Core.List.{List, [], _∷_, _++_}
+use lib.ListN.{length, take, drop, replicate}
+use Rattle.octets.specs.Choice.{if_then_else_}
+use Rattle.card.specs.declared.Card.{Card}
+use Rattle.card.specs.State.{cardAtPowerOn, withOctets}
+use Rattle.card.specs.Gap.{Outcome, gapped}
+use Rattle.input.specs.declared.Call.{Call}
+use Rattle.input.specs.declared.Call.the-variants as call
+use Rattle.input.specs.Input.{lengthOf2, callSize, callOf}
+use Rattle.printing.specs.Line.{cutLine, newline, gapLine}
+
+-- the fixed words, each on a line of its own: call; and cut (`printing`)
+abbrev pub callLine : List ℕ
+callLine = 99 ∷ 97 ∷ 108 ∷ 108 ∷ newline
+
+-- what is kept between two calls: the card, and what a gap is lent: the image, the clock, so many octets of the reply buffer
+pub record Bench : Type 0 where
+  pub card : Card
+  pub image : List ℕ
+  pub clock : List ℕ
+  pub room : ℕ
+  pub buffer : List ℕ
+
+-- at the start: the image is empty, the clock zeros, the lent length 261, and the reply buffer 300 octets of AA
+unfoldable pub atStart : Bench
+atStart = record { card = cardAtPowerOn; image = []; clock = replicate 7 0; room = 261; buffer = replicate 300 0xAA }
+
+-- one function for each part that a call changes
+unfoldable pub withImage : List ℕ → Bench → Bench
+withImage image b = record { card = b .card; image = image; clock = b .clock; room = b .room; buffer = b .buffer }
+
+unfoldable pub withClock : List ℕ → Bench → Bench
+withClock clock b = record { card = b .card; image = b .image; clock = clock; room = b .room; buffer = b .buffer }
+
+unfoldable pub withRoom : ℕ → Bench → Bench
+withRoom room b = record { card = b .card; image = b .image; clock = b .clock; room = room; buffer = b .buffer }
+
+unfoldable pub withCard : Card → Bench → Bench
+withCard card b = record { card = card; image = b .image; clock = b .clock; room = b .room; buffer = b .buffer }
+
+unfoldable pub withBuffer : List ℕ → Bench → Bench
+withBuffer buffer b = record { card = b .card; image = b .image; clock = b .clock; room = b .room; buffer = buffer }
+
+-- what a call does: the text that it gives, the bench after it, whether another may follow
+pub record Step : Type 0 where
+  pub text : List ℕ
+  pub bench : Bench
+  pub more : Bool
+
+-- no text, and another call may follow
+abbrev pub silentStep : Bench → Step
+silentStep b = record { text = []; bench = b; more = true }
+
+-- nothing follows, and the call has no effect
+abbrev pub lastStep : List ℕ → Bench → Step
+lastStep text b = record { text = text; bench = b; more = false }
+
+-- a gap's reply stands in the first octets of the buffer, the rest unchanged
+abbrev pub repliedIn : List ℕ → List ℕ → List ℕ
+repliedIn reply buffer = reply ++ drop (length reply) buffer
+
+-- the line of a gap: number, length, order, the order's octets, the count of damaged runs after the gap, all of the buffer
+unfoldable pub lineStep : Outcome → Bench → Step
+lineStep o b = record {
+  text = gapLine (o .number) (length (o .reply)) (o .order) (o .time) (o .card .damaged) (repliedIn (o .reply) (b .buffer));
+  bench = withCard (o .card) (withBuffer (repliedIn (o .reply) (b .buffer)) b);
+  more = true;
+}
+
+-- a gap is lent the first octets of the buffer, so many as there is room
+unfoldable pub gapStep : Bench → Step
+gapStep b = lineStep (gapped (b .card) (b .image) (b .clock) (length (take (b .room) (b .buffer)))) b
+
+-- what stands behind a call's letter and length; a clock has 7 octets
+abbrev pub imageOf : List ℕ → List ℕ
+imageOf octets = drop 4 octets
+
+abbrev pub clockOf : List ℕ → List ℕ
+clockOf octets = take 7 (drop 1 octets)
+
+abbrev pub roomOf : List ℕ → ℕ
+roomOf octets = lengthOf2 octets 1
+
+abbrev pub givenOf : List ℕ → List ℕ
+givenOf octets = drop 3 octets
+
+-- a call by what it is: input that ends between two calls just ends; the octets of an O are given to the card one by one
+unfoldable pub afterCall : Call → Bench → List ℕ → Step
+afterCall call.End b octets = lastStep [] b
+afterCall call.Cut b octets = lastStep cutLine b
+afterCall call.Wrong b octets = lastStep callLine b
+afterCall call.Image b octets = silentStep (withImage (imageOf octets) b)
+afterCall call.Clock b octets = silentStep (withClock (clockOf octets) b)
+afterCall call.Room b octets = silentStep (withRoom (roomOf octets) b)
+afterCall call.Octets b octets = silentStep (withCard (withOctets (b .card) (givenOf octets)) b)
+afterCall call.Gap b octets = gapStep b
+
+unfoldable pub callStep : Bench → List ℕ → Step
+callStep b octets = afterCall (callOf octets) b octets
+
+-- what is left of an input begins with a call
+abbrev pub firstCall : List ℕ → List ℕ
+firstCall rest = take (callSize rest) rest
+
+abbrev pub behindCall : List ℕ → List ℕ
+behindCall rest = drop (callSize rest) rest
+
+-- the texts of the calls in what is left of an input: each call meets the bench that the one before it left. The fuel ends the recursion
+unfoldable pub stepsText : ℕ → Bench → List ℕ → List ℕ
+stepsText zero b rest = []
+stepsText (suc fuel) b rest =
+    let s = callStep b (firstCall rest) in
+    s .text ++ (if s .more then stepsText fuel (s .bench) (behindCall rest) else [])
+
+-- all that is written
+unfoldable pub driven : List ℕ → List ℕ
+driven input = stepsText (length input) atStart input

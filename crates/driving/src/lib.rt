@@ -1,0 +1,209 @@
+// The calls of the driving program: what each does to the bench, so that the program only reads, steps and writes.
+ghost use mathlib.Core.Path.{_≡_};
+ghost use lib.ListN.{length, take};
+ghost use Rattle.card.specs.State.{withOctets};
+ghost use Rattle.card.specs.Gap.{gapped, Gapped};
+ghost use Rattle.input.specs.Input.{callOf};
+ghost use Rattle.printing.specs.Line.{Lined};
+ghost use Rattle.driving.specs.Driven.{atStart, imageOf, roomOf, givenOf, gapStep, callStep};
+ghost use Rattle.driving.specs.Stepped.{benchOf, heldOf, heldCard, heldClock, heldRoom, clockPut, silentLeft, goneLine, Stepped, Said, Stood, ImageAfter};
+use card::Card;
+use card::Gone;
+use input::Call;
+
+// What is held between two calls: the card, the clock, how many octets of the reply buffer a gap is lent.
+pub struct Held {
+    pub card: Card,
+    pub clock: [u8; 7],
+    pub room: u16,
+}
+
+// What a call leaves: how many octets its text has, what is held, whether another may follow.
+pub struct Left {
+    pub count: usize,
+    pub held: Held,
+    pub more: bool,
+}
+
+// A last line, and all as it was.
+fn last(out: &mut [u8], text: &[u8], held: Held) -> Left
+    ensures { λ r. ⌜ Said (now (out .entry)) (now (text .entry)) held r (now (out .exit)) ⌝ }
+{
+    if octets::put(out, 0, text) {
+        return Left {
+            count: text.len(),
+            held,
+            more: false,
+        };
+    }
+    Left {
+        count: 0,
+        held,
+        more: false,
+    }
+}
+
+// No text, and another call may follow.
+fn silent(held: Held) -> Left
+    ensures { λ r. ⌜ r ≡ silentLeft held ⌝ }
+{
+    Left {
+        count: 0,
+        held,
+        more: true,
+    }
+}
+
+// Another card is held.
+fn with_card(held: Held, card: Card) -> Held
+    ensures { λ r. ⌜ r ≡ heldCard card held ⌝ }
+{
+    let clock = held.clock;
+    Held {
+        card,
+        clock,
+        room: held.room,
+    }
+}
+
+// The clock from now on.
+fn with_clock(held: Held, call: &[u8]) -> Left
+    ensures { λ r. ⌜ r ≡ silentLeft (heldClock (clockPut (now (call .entry))) held) ⌝ }
+{
+    let card = held.card;
+    let mut clock = [0; 7];
+    octets::put(&mut clock, 0, octets::part(call, 1, 7));
+    silent(Held {
+        card,
+        clock,
+        room: held.room,
+    })
+}
+
+// How much of the reply buffer is lent from now on.
+fn with_room(held: Held, call: &[u8]) -> Left
+    ensures { λ r. ⌜ r ≡ silentLeft (heldRoom (roomOf (now (call .entry))) held) ⌝ }
+{
+    let card = held.card;
+    let clock = held.clock;
+    silent(Held {
+        card,
+        clock,
+        room: input::length_of_2(call, 1),
+    })
+}
+
+// Octets come in one by one, as a line delivers them.
+fn octet_by_octet(card: Card, octets: &[u8]) -> Card
+    ensures { λ r. ⌜ r ≡ withOctets card (now (octets .entry)) ⌝ }
+{
+    let mut next = card;
+    let mut i = 0;
+    while i < octets.len() {
+        next = next.octet(octets[i]);
+        i += 1;
+    }
+    next
+}
+
+// The octets of an O are given to the card that is held.
+fn with_octets(held: Held, call: &[u8]) -> Left
+    ensures { λ r. ⌜ r ≡ silentLeft (heldCard (withOctets (held .card) (givenOf (now (call .entry)))) held) ⌝ }
+{
+    let card = held.card;
+    let next = octet_by_octet(card, octets::part(call, 3, call.len()));
+    silent(with_card(held, next))
+}
+
+// A gap that is lent so many octets of the buffer, or as many as it has.
+fn lent(card: Card, image: &[u8], clock: [u8; 7], buffer: &mut [u8], room: usize) -> Gone
+    ensures { λ r. ⌜ Gapped (gapped card (now (image .entry)) clock (length (take room (now (buffer .entry))))) (now (buffer .entry)) r (now (buffer .exit)) ⌝ }
+{
+    if room <= buffer.len() {
+        return card.gap(image, clock, &mut buffer[..room]);
+    }
+    card.gap(image, clock, buffer)
+}
+
+// The line of a gap, with all of the buffer.
+fn line(out: &mut [u8], gone: Gone, buffer: &[u8]) -> usize
+    ensures { λ r. ⌜ Lined (now (out .entry)) (goneLine gone (now (buffer .entry))) r (now (out .exit)) ⌝ }
+{
+    let order = gone.order;
+    let time = gone.time;
+    let card = gone.card;
+    printing::gap_line(
+        out,
+        gone.number,
+        gone.length,
+        order,
+        time,
+        card.damaged,
+        buffer,
+    )
+}
+
+// A gap and its line.
+fn gap(out: &mut [u8], held: Held, image: &[u8], buffer: &mut [u8]) -> Left
+    ensures { λ r. ⌜ Stepped (now (out .entry)) (gapStep (benchOf held (now (image .entry)) (now (buffer .entry)))) r (now (buffer .exit)) (now (out .exit)) ⌝ }
+{
+    let card = held.card;
+    let clock = held.clock;
+    let gone = lent(card, image, clock, buffer, held.room as usize);
+    let after = gone.card;
+    Left {
+        count: line(out, gone, buffer),
+        held: with_card(held, after),
+        more: true,
+    }
+}
+
+// A call as it was read, or what is read of it when no more octets come: its text, and what is held after it. A text that does not fit is not
+// written. The image is the one that is lent; that of an I is put into its place by `image_after`.
+pub fn step(out: &mut [u8], held: Held, image: &[u8], buffer: &mut [u8], call: &[u8]) -> Left
+    ensures { λ r. ⌜ Stepped (now (out .entry)) (callStep (benchOf held (now (image .entry)) (now (buffer .entry))) (now (call .entry))) r (now (buffer .exit))
+        (now (out .exit)) ⌝ }
+{
+    match input::judge_call(call) {
+        Call::End => last(out, b"", held),
+        Call::Cut => last(out, b"cut\n", held),
+        Call::Wrong => last(out, b"call\n", held),
+        Call::Image => silent(held),
+        Call::Clock => with_clock(held, call),
+        Call::Room => with_room(held, call),
+        Call::Octets => with_octets(held, call),
+        Call::Gap => gap(out, held, image, buffer),
+    }
+}
+
+// Puts the image of an I into its space, if it fits.
+fn stand(space: &mut [u8], had: usize, call: &[u8]) -> usize
+    ensures { λ r. ⌜ Stood (now (space .entry)) had (imageOf (now (call .entry))) r (now (space .exit)) ⌝ }
+{
+    let image = octets::part(call, 4, call.len());
+    if octets::put(space, 0, image) {
+        return image.len();
+    }
+    had
+}
+
+// The image lent after a call: how many of its space's octets count. That of an I takes the place of the one before.
+pub fn image_after(space: &mut [u8], had: usize, call: &[u8]) -> usize
+    ensures { λ r. ⌜ ImageAfter (callOf (now (call .entry))) (now (space .entry)) had (now (call .entry)) r (now (space .exit)) ⌝ }
+{
+    match input::judge_call(call) {
+        Call::Image => stand(space, had, call),
+        _ => had,
+    }
+}
+
+// What is held at the start.
+pub fn start() -> Held
+    ensures { λ r. ⌜ r ≡ heldOf atStart ⌝ }
+{
+    Held {
+        card: Card::power_on(),
+        clock: [0; 7],
+        room: 261,
+    }
+}
