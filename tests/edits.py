@@ -118,7 +118,8 @@ class Trial:
         folder, kept = self.room / "address", self.room / "kept"
         self.copy("address", folder)
         self.kit.check("address", folder, kept)
-        return next(kept.iterdir()).name
+        names = [place.name for place in kept.iterdir()] if kept.is_dir() else []
+        return names[0] if names else "none"
 
     @staticmethod
     def copy(crate, folder):
@@ -136,7 +137,9 @@ class Trial:
                 edit.apply(folder)
             except (ValueError, OSError) as error:
                 return 0, f"no edit: {error}", "", ""
-            shutil.copytree(self.kit.rlib(edit.crate) / "toolchain" / "checked", kept / self.kept_name)
+            checked = self.kit.rlib(edit.crate) / "toolchain" / "checked"
+            if checked.is_dir():  # else the whole copy is checked
+                shutil.copytree(checked, kept / self.kept_name)
             status, log = self.kit.check(edit.crate, folder, kept)
             log = log.replace(f"{folder}/", "")
         (LOGS / edit.crate).mkdir(parents=True, exist_ok=True)
