@@ -18,7 +18,7 @@ from programs import ROOT
 from slips import TABLE as SLIPS, rests_on
 
 CRATES, CONTRACTS, READING = ROOT / "crates", ROOT / "docs" / "CONTRACTS.md", ROOT / "docs" / "READING.md"
-WORKED_OUT = ("parts/specs/Key", "image/specs/Keys", "choice/specs/Keys", "request/specs/ByType")
+WORKED_OUT = ("fields/specs/working/Key", "image/specs/working/Keys", "choice/specs/working/Keys")
 PROGRAMS = ("input", "stream", "printing", "turns", "driving")
 
 
@@ -140,7 +140,8 @@ def lines_in(files):
 
 def reading(text, every, errors):
     """docs/READING.md with its figures written anew."""
-    specs = {f"{file.parts[-3]}/specs/{file.stem}": file for file in sorted(CRATES.glob("*/specs/*.antt")) if file.stem != "Lib"}
+    specs = {str(file.relative_to(CRATES).with_suffix("")): file for file in sorted(CRATES.glob("*/specs/**/*.antt"))
+             if file.stem not in ("Lib", "working")}
     listed = []
 
     def row(found):
@@ -151,13 +152,13 @@ def reading(text, every, errors):
         listed.append(specs[name])
         return f"| `{name}` | {lines_in([specs[name]])} |"
 
-    text = re.sub(r"^\| `(\w+/specs/\w+)` \| [\d,]+ \|", row, text, flags=re.M)
+    text = re.sub(r"^\| `(\w+/specs/[\w/]+)` \| [\d,]+ \|", row, text, flags=re.M)
     for name in specs:
         if name not in text and name.rpartition("/")[0] + "`" not in text:
             errors.append(f"docs/READING.md: {name} is named nowhere")
     calls = [call for calls in every.values() for call in calls.values()]
     figures = {
-        "specs": lines_in(CRATES.glob("*/specs/*.antt")),
+        "specs": lines_in(CRATES.glob("*/specs/**/*.antt")),
         "src": lines_in(CRATES.glob("*/src/*.rt")),
         "proofs": lines_in(CRATES.glob("*/proofs/**/*.antt")),
         "listed": lines_in(listed),

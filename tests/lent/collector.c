@@ -1,4 +1,4 @@
-/* The proved octet function over a collector that is lent (`line::collect`), called from C beside the second program's card: after
+/* The proved octet function over a collector that is lent (`collector::collect`), called from C beside the second program's card: after
    every octet the two hold the same, from empty to full to overfull. Prints how many octets were compared; status 1 at a difference. */
 #include <stdint.h>
 #include <stdio.h>
@@ -6,7 +6,7 @@
 
 #include "card.h"
 
-/* line::Collector, #[repr(C)]: the octets, zeros behind them; a length over 261 means overfull */
+/* collector::Collector, #[repr(C)]: the octets, zeros behind them; a length over 261 means overfull */
 struct lent_collector {
     uint8_t octets[FRAME_OCTETS_MOST];
     uint16_t length;

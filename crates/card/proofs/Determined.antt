@@ -1,8 +1,7 @@
 -- Every public contract of this crate leaves one outcome.
--- By its one equation, or by the law of its relation. Assumes nothing.
+-- By its one equation, or by those of what it does. Assumes nothing.
 use denote.Ref.{now}
-use Rattle.octets.proofs.Outcome.{OneResult, OneOutcome, one-outcome}
-use Rattle.card.proofs.Gap.{gapped-one}
+use Rattle.octets.proofs.Outcome.{OneResult, OneOutcome, one-outcome, does-one}
 use Rattle.card.proofs.Card.gap.Reads as card-gap
 use Rattle.card.proofs.Card.power_on.Reads as card-power-on
 use Rattle.card.proofs.Card.octet.Reads as card-octet
@@ -18,4 +17,4 @@ card-octets-one : OneResult card-octets.Post
 card-octets-one κs a r r′ s s′ = one-outcome
 
 card-gap-one : OneOutcome (λ κs s. now (s .1 .1 .1 .0)) card-gap.Post
-card-gap-one κs a r r′ s s′ = gapped-one
+card-gap-one κs a r r′ s s′ = does-one

@@ -1,4 +1,5 @@
 pub mod State
+pub mod Examining
 pub mod Gap
 mod Determined
 mod RuledOut

@@ -1,2 +1,3 @@
 pub mod State
+pub mod Examining
 pub mod Gap

@@ -2,9 +2,11 @@
 -- Assumes nothing.
 use Prim.Native.Nat.{ℕ}
 use mathlib.Core.List.{List, [], _∷_}
-use Rattle.line.specs.declared.Collector.{Collector}
-use Rattle.line.specs.Collecting.{emptied, collected}
-use Rattle.line.specs.Damage.{damagedAfter}
+use Rattle.octets.specs.Choice.{if_then_else_}
+use Rattle.frame.specs.declared.Fault.{Fault}
+use Rattle.collector.specs.declared.Collector.{Collector}
+use Rattle.collector.specs.Collecting.{emptied, collected}
+use Rattle.collector.specs.Damage.{damages, oneMore}
 use Rattle.link.specs.declared.Link.{Link}
 use Rattle.link.specs.State.{powerOn}
 use Rattle.card.specs.declared.Card.{Card}
@@ -26,9 +28,10 @@ unfoldable pub withOctets : Card → List ℕ → Card
 withOctets card [] = card
 withOctets card (octet ∷ rest) = withOctets (withOctet card octet) rest
 
--- a run is gone: the collector is as fresh, and the count grows by the number's rule
-unfoldable pub runGone : ℕ → Card → Card
-runGone number card = record { collector = emptied; link = card .link; damaged = damagedAfter (card .damaged) number }
+-- the run is gone: the collector is as fresh; the link is as it is then
+unfoldable pub leftWith : Link → Card → Card
+leftWith link card = record { collector = emptied; link = link; damaged = card .damaged }
 
-unfoldable pub linkedBy : Link → Card → Card
-linkedBy link card = record { collector = card .collector; link = link; damaged = card .damaged }
+-- a run that is no sound frame: a damaged one is gone and counted; an empty one changes nothing
+unfoldable pub damagedBy : Fault → Card → Card
+damagedBy fault card = if damages fault then record { collector = emptied; link = card .link; damaged = oneMore (card .damaged) } else card

@@ -1,16 +1,31 @@
-// The card: its state, an octet, a gap.
+// The card: its state, an octet, a run examined, a gap.
 ghost use Prim.Native.Nat.{_≤_};
 ghost use mathlib.Core.Path.{_≡_};
 ghost use lib.ListN.{length};
-ghost use Rattle.card.specs.State.{cardAtPowerOn, collecting, withOctet, withOctets, runGone, linkedBy};
-ghost use Rattle.card.specs.Gap.{refusal, afterAnswer, afterExamining, gapped, goneBy, octetsMeant, Gapped, Sent};
-use carrying::Order;
+ghost use Rattle.octets.specs.Over.{laidIn, Does};
+ghost use Rattle.frame.specs.Family.{sapr};
+ghost use Rattle.frame.specs.Frame.{judge};
+ghost use Rattle.frame.specs.Writing.{replyOctets};
+ghost use Rattle.fields.specs.Answers.{identityFound};
+ghost use Rattle.card.specs.State.{cardAtPowerOn, collecting, withOctet, withOctets, leftWith, damagedBy};
+ghost use Rattle.card.specs.Examining.{noFrame, isLink, heard, examinedFrame, examinedVerdict, examined};
+ghost use Rattle.card.specs.Gap.{refusal, repliedBy, afterAnswer, afterExamining, gapped, goneBy, Gapped};
+use address::LinkAddress;
+use collector::Collector;
+use deeds::Order;
+use fields::IdentityFound;
+use frame::Asked;
+use frame::Control;
+use frame::Fault;
+use frame::Form;
+use frame::Judged;
+use frame::Reply;
+use frame::Service;
 use frame::Written;
-use line::Collector;
-use line::Examined;
 use link::Answered;
 use link::Link;
-use link::Meant;
+use link::Sends;
+use octets::Kept;
 
 // The octets since the last gap, the link with its session, the count of damaged runs.
 pub struct Card {
@@ -28,10 +43,103 @@ pub struct Gone {
     pub card: Card,
 }
 
-impl Card {
-    // The least room that a reply buffer must have: that of the longest frame.
-    pub const ROOM: usize = 261;
+// What examining a run finds: why it is no sound frame, that it is not for this card, or what it asks for.
+pub enum Finding {
+    Faulty(Fault),
+    OtherLink,
+    NotOffered,
+    Asks(Service),
+}
 
+// A finding, and the user octets of a frame that is to be answered.
+pub struct Examined {
+    pub finding: Finding,
+    pub user: Kept,
+}
+
+// The run is judged, its link address compared with the image's, its control field read. Nothing after this reads the collector.
+fn examine(collector: Collector, image: &[u8]) -> Examined
+    ensures { λ r. ⌜ r ≡ examined collector (now (image .entry)) ⌝ }
+{
+    if Judged::LONGEST < collector.length as usize {
+        return found(Finding::Faulty(Fault::Long));
+    }
+    let octets = collector.octets;
+    examine_run(octets::part(&octets, 0, collector.length as usize), image)
+}
+
+fn found(finding: Finding) -> Examined
+    ensures { λ r. ⌜ r ≡ noFrame finding ⌝ }
+{
+    Examined {
+        finding,
+        user: Kept::new(),
+    }
+}
+
+fn examine_run(run: &[u8], image: &[u8]) -> Examined
+    ensures { λ r. ⌜ r ≡ examinedVerdict (now (image .entry)) (judge sapr (now (run .entry))) ⌝ }
+{
+    match frame::judge(run) {
+        Judged::Faulty(fault) => found(Finding::Faulty(fault)),
+        Judged::Fixed { control, link } => examine_frame(
+            image,
+            Form::Fixed,
+            control,
+            link,
+            &run[..0],
+        ),
+        Judged::Variable {
+            control,
+            link,
+            users,
+        } => examine_frame(
+            image,
+            Form::Variable,
+            control,
+            link,
+            frame::user(run, users),
+        ),
+    }
+}
+
+fn examine_frame(image: &[u8], form: Form, control: u8, link: LinkAddress, user: &[u8]) -> Examined
+    requires { ⌜ length (now user) ≤ 252 ⌝ }
+    ensures { λ r. ⌜ r ≡ examinedFrame (now (image .entry)) form control link (now (user .entry)) ⌝ }
+{
+    if is_link(image, link) {
+        return hear(frame::service_of(form, control), user);
+    }
+    found(Finding::OtherLink)
+}
+
+fn hear(asked: Asked, user: &[u8]) -> Examined
+    requires { ⌜ length (now user) ≤ 252 ⌝ }
+    ensures { λ r. ⌜ r ≡ heard asked (now (user .entry)) ⌝ }
+{
+    match asked {
+        Asked::Is(service) => Examined {
+            finding: Finding::Asks(service),
+            user: Kept::new().with(user),
+        },
+        Asked::NotOffered => found(Finding::NotOffered),
+    }
+}
+
+// Whether a frame is for the card that an image describes.
+fn is_link(image: &[u8], link: LinkAddress) -> bool
+    ensures { λ r. ⌜ r ≡ isLink (identityFound (now (image .entry))) link ⌝ }
+{
+    match fields::identity_of(image) {
+        IdentityFound::Is(identity) => {
+            let own = identity.link;
+            own.is(link)
+        }
+        IdentityFound::Nothing => false,
+    }
+}
+
+impl Card {
     pub fn power_on() -> Card
         ensures { λ r. ⌜ r ≡ cardAtPowerOn ⌝ }
     {
@@ -69,39 +177,42 @@ impl Card {
         }
     }
 
-    // The run is gone.
-    fn without_run(self, number: u8) -> Card
-        ensures { λ r. ⌜ r ≡ runGone number self ⌝ }
+    // The run is gone, and the link as it is then.
+    fn left_with(self, link: Link) -> Card
+        ensures { λ r. ⌜ r ≡ leftWith link self ⌝ }
     {
-        let link = self.link;
         Card {
             collector: Collector::new(),
             link,
-            damaged: line::damaged_after(self.damaged, number),
+            damaged: self.damaged,
         }
     }
 
-    fn linked_by(self, link: Link) -> Card
-        ensures { λ r. ⌜ r ≡ linkedBy link self ⌝ }
+    // A run that is no sound frame is gone and counted; an empty one changes nothing.
+    fn damaged_by(self, fault: Fault) -> Card
+        ensures { λ r. ⌜ r ≡ damagedBy fault self ⌝ }
     {
-        let collector = self.collector;
-        Card {
-            collector,
-            link,
-            damaged: self.damaged,
+        if collector::is_damaged(fault) {
+            let link = self.link;
+            return Card {
+                collector: Collector::new(),
+                link,
+                damaged: collector::one_more(self.damaged),
+            };
         }
+        self
     }
 
     // The line was idle: the run is examined, and a reply may be written.
     pub fn gap(self, image: &[u8], clock: [u8; 7], buffer: &mut [u8]) -> Gone
         ensures { λ r. ⌜ Gapped (gapped self (now (image .entry)) clock (length (now (buffer .entry)))) (now (buffer .entry)) r (now (buffer .exit)) ⌝ }
     {
-        if buffer.len() < Card::ROOM {
+        if buffer.len() < Judged::LONGEST {
             return refused(9, self);
         }
         if image::sound(image) {
             let collector = self.collector;
-            return after_examining(self, line::examine(collector, image), image, clock, buffer);
+            return after_examining(self, examine(collector, image), image, clock, buffer);
         }
         refused(8, self)
     }
@@ -114,7 +225,7 @@ fn refused(number: u8, card: Card) -> Gone
     Gone {
         number,
         length: 0,
-        order: Order::Nothing,
+        order: Order::NoOrder,
         time: [0; 10],
         card,
     }
@@ -131,47 +242,60 @@ fn after_examining(
     ensures { λ r. ⌜ Gapped (afterExamining card examined (now (image .entry)) clock) (now (buffer .entry)) r (now (buffer .exit)) ⌝ }
 {
     let finding = examined.finding;
-    let frame = examined.frame;
+    let user = examined.user;
     let link = card.link;
-    let number = finding.number();
-    if number == 1 {
-        return refused(1, card);
+    match finding {
+        Finding::Faulty(fault) => refused(fault.number(), card.damaged_by(fault)),
+        Finding::OtherLink => refused(5, card.left_with(link)),
+        Finding::NotOffered => refused(6, card.left_with(link)),
+        Finding::Asks(service) => after_answer(
+            card,
+            link.answer(service, user, image, clock),
+            buffer,
+        ),
     }
-    if number == 0 {
-        return after_answer(card, link::answer(link, frame, image, clock), buffer);
-    }
-    refused(number, card.without_run(number))
 }
 
 fn after_answer(card: Card, answered: Answered, buffer: &mut [u8]) -> Gone
     requires { ⌜ 261 ≤ length (now buffer) ⌝ }
     ensures { λ r. ⌜ Gapped (afterAnswer card answered) (now (buffer .entry)) r (now (buffer .exit)) ⌝ }
 {
-    let number = answered.number;
-    if number == 0 {
-        let meant = answered.reply;
-        let order = answered.order;
-        let time = answered.time;
-        let link = answered.link;
-        return Gone {
-            number: 0,
-            length: written(buffer, meant),
-            order,
-            time,
-            card: card.without_run(0).linked_by(link),
-        };
+    let sends = answered.sends;
+    let link = answered.link;
+    match sends {
+        Sends::NotReset => refused(7, card.left_with(link)),
+        Sends::Remembered => replied(card, answered, link.remembered, buffer),
+        Sends::Status(address) => replied(
+            card,
+            answered,
+            Reply::plain(Control::Status, address),
+            buffer,
+        ),
     }
-    refused(number, card.without_run(number))
 }
 
-// Writes a reply that is meant, and answers how many octets it has.
-fn written(buffer: &mut [u8], meant: Meant) -> u16
+fn replied(card: Card, answered: Answered, reply: Reply, buffer: &mut [u8]) -> Gone
     requires { ⌜ 261 ≤ length (now buffer) ⌝ }
-    ensures { λ r. ⌜ Sent (octetsMeant meant) (now (buffer .entry)) r (now (buffer .exit)) ⌝ }
+    ensures { λ r. ⌜ Gapped (repliedBy card answered reply) (now (buffer .entry)) r (now (buffer .exit)) ⌝ }
 {
-    let reply = meant.reply;
-    let link = meant.link;
-    match frame::write(buffer, reply, link) {
+    let order = answered.order;
+    let time = answered.time;
+    let link = answered.link;
+    Gone {
+        number: 0,
+        length: written(buffer, reply),
+        order,
+        time,
+        card: card.left_with(link),
+    }
+}
+
+// Writes a reply, and answers how many octets it has.
+fn written(buffer: &mut [u8], reply: Reply) -> u16
+    requires { ⌜ 261 ≤ length (now buffer) ⌝ }
+    ensures { λ r. ⌜ Does (length (replyOctets reply)) (laidIn (now (buffer .entry)) (replyOctets reply)) r (now (buffer .exit)) ⌝ }
+{
+    match frame::write(buffer, reply) {
         Written::Short => 0,
         Written::Octets(length) => length,
     }

@@ -8,7 +8,7 @@ ghost use Prim.Native.Nat.{_≤_};
 ghost use lib.ListN.{length};
 use card::Card;
 use card::Gone;
-use carrying::Order;
+use deeds::Order;
 
 // The octets that hex digits spell: the first so many of the array. A digit that waits for its second is under 16.
 struct Word {
@@ -131,17 +131,17 @@ fn is_touched(buffer: &[u8], from: usize) -> bool {
 
 fn tell_order(order: Order) {
     match order {
-        Order::Nothing => text(b" -"),
-        Order::Clock => text(b" clock"),
-        Order::Dates => text(b" dates"),
+        Order::NoOrder => text(b" -"),
+        Order::SetClock => text(b" clock"),
+        Order::SetDates => text(b" dates"),
     }
 }
 
 fn tell_time(order: Order, time: [u8; 10]) {
     match order {
-        Order::Nothing => {}
-        Order::Clock => octets_of(&time),
-        Order::Dates => octets_of(&time),
+        Order::NoOrder => {}
+        Order::SetClock => octets_of(&time),
+        Order::SetDates => octets_of(&time),
     }
 }
 

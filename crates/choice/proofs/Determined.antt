@@ -1,12 +1,8 @@
 -- Every public contract of this crate leaves one outcome.
 -- By its one equation. Assumes nothing.
 use Rattle.octets.proofs.Outcome.{OneResult, one-outcome}
-use Rattle.choice.proofs.count.Reads as count
 use Rattle.choice.proofs.find.Reads as find
 use Rattle.choice.proofs.next.Reads as next
-
-count-one : OneResult count.Post
-count-one κs a r r′ s s′ = one-outcome
 
 find-one : OneResult find.Post
 find-one κs a r r′ s s′ = one-outcome

@@ -8,20 +8,21 @@ use native.Mathlib.Omega.{arith}
 use lib.Dec.{leb, eqb}
 use lib.ListN.{length, getD}
 use Rattle.octets.specs.Choice.{if_then_else_}
-use Rattle.octets.proofs.Choice.{either, not-both}
+use Rattle.octets.proofs.Choice.{either}
 use Rattle.octets.proofs.Conditions.{and-left, and-right}
 use Rattle.records.specs.Records.{lengthOf, kindOf, wholeAt, recordAt, recordsFrom, placeAfter}
 use Rattle.records.specs.Said.{keep, howMany, placesOf}
 use Rattle.records.proofs.Records.{stands-facts, kind-there, after-whole}
+use Rattle.records.proofs.Said.{keep-within}
 use Rattle.records.proofs.Places.{Lie, lie, none, one, lie-is, Hit, nth-hit, as-many-places}
-use Rattle.parts.specs.Parts.{pointOf}
-use Rattle.parts.specs.Answers.{recordsOf, valueFound, eventFound}
-use Rattle.parts.proofs.Answers.{value-same, event-same}
+use Rattle.fields.specs.Parts.{pointOf, isKind}
+use Rattle.fields.specs.Answers.{recordsOf, valueFound, eventFound}
+use Rattle.fields.proofs.Answers.{value-same, event-same}
 use Rattle.choice.specs.declared.Span.{Span}
 use Rattle.choice.specs.declared.Query.{Query}
 use Rattle.choice.specs.declared.Query.the-variants.{Reading, Event}
 use Rattle.choice.specs.declared.Found.the-variants.{At, Nothing}
-use Rattle.choice.specs.Choice.{inSpan, chosen, choice, placesFrom, nthPlace}
+use Rattle.choice.specs.Choice.{inSpan, chosen, choice, readingsOf, placesFrom, nthPlace}
 
 -- the n-th of a list, or that it has no more
 at-nth : (n : ℕ) (ps : List ℕ) (p : ℕ) → nthPlace n ps ≡ At p → (n < length ps) × (getD ps n 0 ≡ p)
@@ -84,18 +85,12 @@ pub goes-on : (query : Query) (image : List ℕ) (from n at : ℕ) → nthPlace 
 unfolding placesFrom
 goes-on query image from n at e = follow (chosen query) at (lie image from) n e
 
--- what is kept does not depend on records that are not kept
-keep-within : (f g : List ℕ → Bool) → ((r : List ℕ) → f r ≡ true → g r ≡ true) → (rs : List (List ℕ)) → keep f (keep g rs) ≡ keep f rs
-unfolding keep
-keep-within f g so [] = refl
-keep-within f g so (r ∷ rs) = by-tests (keep-within f g so rs) (g r) (f r) refl refl
-  where
-    by-tests : keep f (keep g rs) ≡ keep f rs → (t u : Bool) → g r ≡ t → f r ≡ u
-        → keep f (if t then r ∷ keep g rs else keep g rs) ≡ (if u then r ∷ keep f rs else keep f rs)
-    by-tests rest true true p q = rw q (ap (r ∷_) rest)
-    by-tests rest true false p q = rw q rest
-    by-tests rest false true p q = absurd (not-both p (so r q))
-    by-tests rest false false p q = rest
+-- the choice of readings depends on the readings only
+pub readings-alone : (image image′ : List ℕ) → readingsOf image ≡ readingsOf image′ → (span : Span) → choice (Reading span) image ≡ choice (Reading span) image′
+unfolding choice chosen readingsOf
+readings-alone image image′ same span =
+    let within = keep-within (chosen (Reading span)) (isKind 4) (λ r e. and-left (isKind 4 r) _ e) in
+    sym (within (recordsOf image)) ∙ ap (keep (chosen (Reading span))) same ∙ within (recordsOf image′)
 
 -- records that are not another point's: of kinds 1 to 3, or of the point
 unfoldable pub notOfOthers : ℕ → List ℕ → Bool

@@ -16,8 +16,8 @@ use Rattle.label.specs.Label.{instant}
 use Rattle.records.specs.Records.{kindOf}
 use Rattle.records.specs.Said.{linked, keep}
 use Rattle.records.proofs.Said.{keep-none}
-use Rattle.parts.specs.Parts.{pointOf, recordOf, readingLabel, eventLabel}
-use Rattle.parts.specs.Answers.{recordsOf}
+use Rattle.fields.specs.Parts.{pointOf, recordAddress, readingLabel, eventLabel}
+use Rattle.fields.specs.Answers.{recordsOf}
 use Rattle.image.specs.Image.{inOrder, soundImage}
 use Rattle.image.proofs.Order.{linked-tail, before-rest, readings-rise, events-rise}
 use Rattle.image.proofs.Soundness.{rules}
@@ -89,10 +89,10 @@ keep-split f g h both apart behind (r ∷ rs) l =
 
 -- the two parts of a span
 abbrev pub upTo : ℤ → Span → Span
-upTo t span = record { point = span .point; «record» = span .record; first = span .first; last = t }
+upTo t span = record { point = span .point; record_address = span .record_address; first = span .first; last = t }
 
 abbrev pub fromAfter : ℤ → Span → Span
-fromAfter t span = record { point = span .point; «record» = span .record; first = sucℤ t; last = span .last }
+fromAfter t span = record { point = span .point; record_address = span .record_address; first = sucℤ t; last = span .last }
 
 -- a test of five conditions, taken apart; and with its last two in two parts
 record Inside (k p a u v : Bool) : Type 0 where
@@ -123,15 +123,15 @@ two-parts true true true t u v e = e
 
 -- records of a kind with a time that does not fall back
 module _ (kind : ℕ) (time : List ℕ → ℤ)
-    (rise : (r q : List ℕ) → pointOf r ≡ pointOf q → recordOf r ≡ recordOf q → inOrder r q ≡ true → kindOf r ≡ kind → kindOf q ≡ kind → leZ (time r) (time q) ≡ true)
+    (rise : (r q : List ℕ) → pointOf r ≡ pointOf q → recordAddress r ≡ recordAddress q → inOrder r q ≡ true → kindOf r ≡ kind → kindOf q ≡ kind → leZ (time r) (time q) ≡ true)
     (span : Span) (t : ℤ) (low : leZ (span .first) (sucℤ t) ≡ true) (high : leZ t (span .last) ≡ true) where
   of : Span → List ℕ → Bool
   of s r = eqb (kindOf r) kind && inSpan s r (time r)
 
   parts-of : (s : Span) (r : List ℕ) → of s r ≡ true
-      → Inside (eqb (kindOf r) kind) (eqb (pointOf r) (s .point .0)) (eqb (recordOf r) (s .record)) (leZ (s .first) (time r)) (leZ (time r) (s .last))
+      → Inside (eqb (kindOf r) kind) (eqb (pointOf r) (s .point .0)) (eqb (recordAddress r) (s .record_address)) (leZ (s .first) (time r)) (leZ (time r) (s .last))
   unfolding of inSpan
-  parts-of s r e = inside (eqb (kindOf r) kind) (eqb (pointOf r) (s .point .0)) (eqb (recordOf r) (s .record)) (leZ (s .first) (time r)) (leZ (time r) (s .last)) e
+  parts-of s r e = inside (eqb (kindOf r) kind) (eqb (pointOf r) (s .point .0)) (eqb (recordAddress r) (s .record_address)) (leZ (s .first) (time r)) (leZ (time r) (s .last)) e
 
   not-later : (r : List ℕ) → leZ (time r) t ≡ true → leZ (sucℤ t) (time r) ≡ true → ⊥
   not-later r e f = not-both (from-next t (time r) ∙ ap not e) f
@@ -139,7 +139,7 @@ module _ (kind : ℕ) (time : List ℕ → ℤ)
   either-part : (r : List ℕ) → of span r ≡ (of (upTo t span) r || of (fromAfter t span) r)
   unfolding of inSpan
   either-part r =
-      two-parts (eqb (kindOf r) kind) (eqb (pointOf r) (span .point .0)) (eqb (recordOf r) (span .record)) _ _ _
+      two-parts (eqb (kindOf r) kind) (eqb (pointOf r) (span .point .0)) (eqb (recordAddress r) (span .record_address)) _ _ _
       (in-parts (span .first) (span .last) t low high (time r))
 
   not-both-parts : (r : List ℕ) → of (upTo t span) r ≡ true → of (fromAfter t span) r ≡ false
@@ -151,7 +151,7 @@ module _ (kind : ℕ) (time : List ℕ → ℤ)
       let x = parts-of (fromAfter t span) r e in
       let y = parts-of (upTo t span) q f in
       let points : pointOf r ≡ pointOf q = eqb-true _ _ (x .of-point) ∙ sym (eqb-true _ _ (y .of-point)) in
-      let addresses : recordOf r ≡ recordOf q = eqb-true _ _ (x .of-address) ∙ sym (eqb-true _ _ (y .of-address)) in
+      let addresses : recordAddress r ≡ recordAddress q = eqb-true _ _ (x .of-address) ∙ sym (eqb-true _ _ (y .of-address)) in
       let later : leZ (time r) (time q) ≡ true = rise r q points addresses o (eqb-true _ _ (x .of-kind)) (eqb-true _ _ (y .of-kind)) in
       not-later r (le-trans (time r) (time q) t later (y .before-last)) (x .after-first)))
 

@@ -2,7 +2,7 @@
 -- By computation, and where all images are meant by recursion on the records. Assumes nothing.
 use Prim.Native.Nat.{ℕ, _+_, _≤_, _<_}
 use mathlib.Core.Bool.{Bool}
-use mathlib.Core.List.{List, [], _∷_}
+use mathlib.Core.List.{List, [], _∷_, _++_}
 use mathlib.Core.Path.{_≡_, sym}
 use native.Mathlib.Omega.{arith}
 use contract.Lifetimes.{Lfts}
@@ -14,17 +14,15 @@ use Rattle.octets.proofs.Choice.{either}
 use Rattle.octets.proofs.Outcome.{RuledOut, Place, lent, never}
 use Rattle.label.specs.Calendar.{leap, leapDay, monthLength, daysOfMonths, daysToYear, dayNumber}
 use Rattle.label.specs.Time.{real, minutes}
-use Rattle.label.specs.Label.{dateTimeA, validA, instant}
+use Rattle.label.specs.Label.{dateTimeA, validA, instant, labelAAt, labelBAt}
 use Rattle.records.specs.Records.{lengthOf, isWhole, walk, records, recordsFrom}
-use Rattle.records.specs.Said.{keep, placesOf}
-use Rattle.parts.specs.Parts.{numberAt, labelAAt, labelBAt, pointOf, recordOf, readingLabel, eventLabel}
-use Rattle.parts.specs.Answers.{recordsOf}
+use Rattle.records.specs.Said.{placesOf}
+use Rattle.fields.specs.Parts.{numberAt, pointOf, recordAddress, readingLabel, eventLabel}
+use Rattle.fields.specs.Answers.{recordsOf}
 use Rattle.choice.specs.declared.Query.{Query}
-use Rattle.choice.specs.declared.Query.the-variants.{Kind, Reading, Event}
+use Rattle.choice.specs.declared.Query.the-variants.{Reading, Event}
 use Rattle.choice.specs.declared.Found.the-variants.{At, Nothing}
-use Rattle.choice.specs.Choice.{inSpan, chosen, choice, placesFrom, nthPlace}
-use Rattle.choice.proofs.Chosen.{choice-few}
-use Rattle.choice.proofs.count.Reads as count
+use Rattle.choice.specs.Choice.{inSpan, chosen, placesFrom, nthPlace}
 use Rattle.choice.proofs.find.Reads as find
 use Rattle.choice.proofs.next.Reads as next
 
@@ -34,16 +32,18 @@ unfolding recordsOf recordsFrom records walk isWhole lengthOf holds highFirst lo
 the-records = tt
 
 the-minutes : Unit {0}
-unfolding numberAt labelAAt labelBAt pointOf recordOf readingLabel eventLabel instant minutes dayNumber daysToYear daysOfMonths validA dateTimeA real leap leapDay monthLength
+unfolding numberAt labelAAt labelBAt pointOf recordAddress readingLabel eventLabel instant minutes dayNumber daysToYear daysOfMonths validA dateTimeA real leap leapDay monthLength
 the-minutes = tt
 
--- two points: their records stand at places 1 and 10
-abbrev points : List ℕ
-points = 1 ∷ 0 ∷ 7 ∷ 2 ∷ 0 ∷ 1 ∷ 0 ∷ 0 ∷ 0 ∷ 1 ∷ 0 ∷ 7 ∷ 2 ∷ 0 ∷ 2 ∷ 0 ∷ 0 ∷ 0 ∷ 2 ∷ []
+-- an event of point 1 and record address 52, in the minute numbered 1; two such stand at places 1 and 16
+abbrev one : List ℕ
+one = 0 ∷ 13 ∷ 5 ∷ 0 ∷ 1 ∷ 52 ∷ 9 ∷ 1 ∷ 0 ∷ 0 ∷ 1 ∷ 0 ∷ 1 ∷ 1 ∷ 0 ∷ []
 
--- an event of point 1 and record address 52, in the minute numbered 1
 abbrev event : List ℕ
-event = 1 ∷ 0 ∷ 13 ∷ 5 ∷ 0 ∷ 1 ∷ 52 ∷ 9 ∷ 1 ∷ 0 ∷ 0 ∷ 1 ∷ 0 ∷ 1 ∷ 1 ∷ 0 ∷ []
+event = 1 ∷ one
+
+abbrev events : List ℕ
+events = 1 ∷ (one ++ one)
 
 -- a reading of point 1 and record address 11, at 00:00 of 2 January 2000: the minute numbered 1440, and the last of the day before
 abbrev reading : List ℕ
@@ -51,7 +51,7 @@ reading = 1 ∷ 0 ∷ 39 ∷ 4 ∷ 0 ∷ 1 ∷ 11 ∷ 0 ∷ 0 ∷ 2 ∷ 1 ∷ 0 
 
 -- the events of a point with record address 52, from one minute to another
 abbrev asked : ℕ → ℤ → ℤ → Query
-asked point first last = Event (record { point = record { 0 = point }; «record» = 52; first = first; last = last })
+asked point first last = Event (record { point = record { 0 = point }; record_address = 52; first = first; last = last })
 
 -- no place of what is chosen lies before the first record's
 no-earlier : (f : List ℕ → Bool) (from : ℕ) (rs : List (List ℕ)) (at : ℕ) → nthPlace 0 (placesOf f from rs) ≡ At at → from ≤ at
@@ -62,20 +62,6 @@ no-earlier f from (r ∷ rs) at =
     (λ _ e. omega (arith, no-earlier f (from + length r) rs at e))
 
 module _ (κs : Lfts 1) (x : Place) where
-  -- more records chosen than the image has octets, whatever the image and what is asked for
-  count-over : (image : List ℕ) (query : Query) → RuledOut (count.Post κs) (lent x image, (query, tt)) (length image + 1)
-  count-over image query s p = omega (arith, choice-few query image)
-
-  -- the first of two points not counted
-  count-one-less : RuledOut (count.Post κs) (lent x points, (Kind 2, tt)) 1
-  unfolding choice chosen keep the-records
-  count-one-less s p = omega arith
-
-  -- as many points as the image has octets
-  count-octets : RuledOut (count.Post κs) (lent x points, (Kind 2, tt)) 19
-  unfolding choice chosen keep the-records
-  count-octets s p = omega arith
-
   -- an event left out whose minute is the first asked for
   find-first-out : RuledOut (find.Post κs) (lent x event, (asked 1 (pos 1) (pos 2), (0, tt))) Nothing
   unfolding nthPlace placesFrom chosen placesOf inSpan the-records the-minutes
@@ -88,7 +74,7 @@ module _ (κs : Lfts 1) (x : Place) where
 
   -- the final label of a day, 00:00 of the next, left out of that day's readings
   find-final-label :
-      RuledOut (find.Post κs) (lent x reading, (Reading (record { point = record { 0 = 1 }; «record» = 11; first = pos 15; last = pos 1440 }), (0, tt)))
+      RuledOut (find.Post κs) (lent x reading, (Reading (record { point = record { 0 = 1 }; record_address = 11; first = pos 15; last = pos 1440 }), (0, tt)))
       Nothing
   unfolding nthPlace placesFrom chosen placesOf inSpan the-records the-minutes
   find-final-label s p = never (cc)
@@ -100,23 +86,18 @@ module _ (κs : Lfts 1) (x : Place) where
 
   -- an event of record address 52 chosen for 53, whatever the range
   find-other-record : (first last : ℤ)
-      → RuledOut (find.Post κs) (lent x event, (Event (record { point = record { 0 = 1 }; «record» = 53; first = first; last = last }), (0, tt))) (At 1)
-  unfolding nthPlace placesFrom chosen placesOf inSpan numberAt pointOf recordOf the-records
+      → RuledOut (find.Post κs) (lent x event, (Event (record { point = record { 0 = 1 }; record_address = 53; first = first; last = last }), (0, tt))) (At 1)
+  unfolding nthPlace placesFrom chosen placesOf inSpan numberAt pointOf recordAddress the-records
   find-other-record first last s p = never (cc)
 
-  -- the place of the first point for the second
-  find-first : RuledOut (find.Post κs) (lent x points, (Kind 2, (1, tt))) (At 1)
-  unfolding nthPlace placesFrom chosen placesOf the-records
+  -- the place of the first event for the second
+  find-first : RuledOut (find.Post κs) (lent x events, (asked 1 (pos 1) (pos 1), (1, tt))) (At 1)
+  unfolding nthPlace placesFrom chosen placesOf inSpan the-records the-minutes
   find-first s p = never (cc)
 
-  -- no place for the first point
-  find-none : RuledOut (find.Post κs) (lent x points, (Kind 2, (0, tt))) Nothing
-  unfolding nthPlace placesFrom chosen placesOf the-records
-  find-none s p = never (cc)
-
-  -- the last point again where there is no further one
-  find-past-end : RuledOut (find.Post κs) (lent x points, (Kind 2, (2, tt))) (At 10)
-  unfolding nthPlace placesFrom chosen placesOf the-records
+  -- the last event again where there is no further one
+  find-past-end : RuledOut (find.Post κs) (lent x events, (asked 1 (pos 1) (pos 1), (2, tt))) (At 16)
+  unfolding nthPlace placesFrom chosen placesOf inSpan the-records the-minutes
   find-past-end s p = never (cc)
 
   -- a place in an image that is empty, whatever is asked for
@@ -124,14 +105,14 @@ module _ (κs : Lfts 1) (x : Place) where
   unfolding nthPlace placesFrom placesOf the-records
   find-in-nothing query n at s p = never (cc)
 
-  -- the first point again, where the search goes on behind it
-  next-from-front : RuledOut (next.Post κs) (lent x points, (Kind 2, (10, tt))) (At 1)
-  unfolding nthPlace placesFrom chosen placesOf the-records
+  -- the first event again, where the search goes on behind it
+  next-from-front : RuledOut (next.Post κs) (lent x events, (asked 1 (pos 1) (pos 1), (16, tt))) (At 1)
+  unfolding nthPlace placesFrom chosen placesOf inSpan the-records the-minutes
   next-from-front s p = never (cc)
 
-  -- the point behind the next one
-  next-second : RuledOut (next.Post κs) (lent x points, (Kind 2, (1, tt))) (At 10)
-  unfolding nthPlace placesFrom chosen placesOf the-records
+  -- the event behind the next one
+  next-second : RuledOut (next.Post κs) (lent x events, (asked 1 (pos 1) (pos 1), (1, tt))) (At 16)
+  unfolding nthPlace placesFrom chosen placesOf inSpan the-records the-minutes
   next-second s p = never (cc)
 
   -- a place before the one from which the search goes on, whatever the image and what is asked for

@@ -9,28 +9,30 @@ use lib.IntN.{ℤ}
 use Rattle.label.specs.Label.{instant}
 use Rattle.records.specs.Records.{recordsFrom}
 use Rattle.records.specs.Said.{keep, placesOf}
-use Rattle.parts.specs.Parts.{pointOf, recordOf, readingLabel, eventLabel, isKind, isPoint}
-use Rattle.parts.specs.Answers.{recordsOf}
+use Rattle.fields.specs.Parts.{pointOf, recordAddress, readingLabel, eventLabel, isKind}
+use Rattle.fields.specs.Answers.{recordsOf}
 use Rattle.choice.specs.declared.Span.{Span}
 use Rattle.choice.specs.declared.Query.{Query}
-use Rattle.choice.specs.declared.Query.the-variants.{Kind, Point, Reading, Event}
+use Rattle.choice.specs.declared.Query.the-variants.{Reading, Event}
 use Rattle.choice.specs.declared.Found.{Found}
 use Rattle.choice.specs.declared.Found.the-variants.{At, Nothing}
 
 -- a record of the span's point and record address, with an instant from first to last, both in
 unfoldable pub inSpan : Span → List ℕ → ℤ → Bool
 inSpan span r time =
-    eqb (pointOf r) (span .point .0) && (eqb (recordOf r) (span .record) && (leZ (span .first) time && leZ time (span .last)))
+    eqb (pointOf r) (span .point .0) && (eqb (recordAddress r) (span .record_address) && (leZ (span .first) time && leZ time (span .last)))
 
 unfoldable pub chosen : Query → List ℕ → Bool
-chosen (Kind kind) r = isKind kind r
-chosen (Point point) r = isPoint (point .0) r
 chosen (Reading span) r = isKind 4 r && inSpan span r (instant (readingLabel r))
 chosen (Event span) r = isKind 5 r && inSpan span r (instant (eventLabel r .a))
 
 -- the chosen records' octets, in image order
 unfoldable pub choice : Query → List ℕ → List (List ℕ)
 choice query image = keep (chosen query) (recordsOf image)
+
+-- all readings of an image
+unfoldable pub readingsOf : List ℕ → List (List ℕ)
+readingsOf image = keep (isKind 4) (recordsOf image)
 
 -- the places of the chosen among the records from a place on; all of them from place 1 on
 unfoldable pub placesFrom : Query → List ℕ → ℕ → List ℕ

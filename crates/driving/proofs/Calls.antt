@@ -1,4 +1,4 @@
--- A call that is found to be one of the five begins with its letter and is whole, and how many octets it has.
+-- How many octets a call has at least, and an I at most.
 -- By the tests of the definition. Assumes nothing.
 use Prim.Native.Nat.{ℕ, _≤_}
 use mathlib.Core.List.{List}
@@ -11,7 +11,7 @@ use lib.Seq.{getD-take}
 use Rattle.octets.proofs.Choice.{either}
 use Rattle.input.specs.declared.Call.{Call}
 use Rattle.input.specs.declared.Call.the-variants as call
-use Rattle.input.specs.Input.{lengthOf2, lengthOf3, callSize, wholeCall, callOf}
+use Rattle.input.specs.Input.{lengthOf2, lengthOf3, callSize, wholeCall, callFound}
 
 -- a call has one octet or more
 pub call-one : (read : List ℕ) → 1 ≤ callSize read
@@ -27,38 +27,31 @@ call-one read =
     (λ _. either P (ltb (length read) 3) (λ _. omega arith) (λ _. omega arith))
     (λ _. omega arith))))
 
--- the letter of an I and of a C, and that it is whole; nothing of the others
+-- the letter of an I; nothing of the others
 abbrev Begins : List ℕ → Call → Type 0
 Begins read call.Image = getD read 0 0 ≡ 73
-Begins read call.Clock = (getD read 0 0 ≡ 67) × (callSize read ≤ length read)
 Begins read call.End = Unit {0}
 Begins read call.Cut = Unit {0}
 Begins read call.Wrong = Unit {0}
+Begins read call.Clock = Unit {0}
 Begins read call.Room = Unit {0}
 Begins read call.Octets = Unit {0}
 Begins read call.Gap = Unit {0}
 
-begins : (read : List ℕ) → Begins read (callOf read)
-unfolding callOf wholeCall
+begins : (read : List ℕ) → Begins read (callFound read)
+unfolding callFound wholeCall
 begins read =
     let n = getD read 0 0 in
     let P = Begins read in
     either P (ltb (length read) 1) (λ _. tt)
     (λ _. either P (ltb (length read) (callSize read)) (λ _. tt)
-    (λ f. either P (eqb n 73) (λ e. either P (ltb 65600 (lengthOf3 read 1)) (λ _. tt) (λ _. eqb-true n 73 e))
-    (λ _. either P (eqb n 67) (λ e. (eqb-true n 67 e, ltb-false (length read) (callSize read) f))
+    (λ _. either P (eqb n 73) (λ e. either P (ltb 65600 (lengthOf3 read 1)) (λ _. tt) (λ _. eqb-true n 73 e))
+    (λ _. either P (eqb n 67) (λ _. tt)
     (λ _. either P (eqb n 66) (λ _. either P (ltb 300 (lengthOf2 read 1)) (λ _. tt) (λ _. tt))
     (λ _. either P (eqb n 79) (λ _. tt) (λ _. either P (eqb n 71) (λ _. tt) (λ _. tt)))))))
 
--- a C has eight octets
-pub clock-eight : (read : List ℕ) → callOf read ≡ call.Clock → 8 ≤ length read
-unfolding callSize
-clock-eight read e =
-    let b : Begins read call.Clock = subst (Begins read) e (begins read) in
-    rw (b .0) at (b .1)
-
 -- an I that stands first in what is left of an input has at most 65,604
-pub image-most : (rest : List ℕ) → callOf (take (callSize rest) rest) ≡ call.Image → callSize rest ≤ 65604
+pub image-most : (rest : List ℕ) → callFound (take (callSize rest) rest) ≡ call.Image → callSize rest ≤ 65604
 unfolding callSize
 image-most rest e =
     let b : Begins (take (callSize rest) rest) call.Image = subst (Begins (take (callSize rest) rest)) e (begins (take (callSize rest) rest)) in

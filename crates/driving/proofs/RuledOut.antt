@@ -14,11 +14,11 @@ use Rattle.octets.specs.Over.{over, fitsAt}
 use Rattle.octets.proofs.Outcome.{RuledOut, RuledOutWith, Place, lent}
 use Rattle.card.specs.State.{cardAtPowerOn, withOctets}
 use Rattle.card.specs.Gap.{Outcome, gapped}
-use Rattle.input.specs.Input.{lengthOf2, lengthOf3, callSize, wholeCall, callOf}
+use Rattle.input.specs.Input.{lengthOf2, lengthOf3, clockAt, callSize, wholeCall, callFound}
 use Rattle.driving.specs.declared.Held.{Held}
 use Rattle.driving.specs.declared.Left.{Left}
 use Rattle.driving.specs.Driven.{atStart, withClock, withRoom, withCard, withBuffer, lineStep, gapStep, afterCall, callStep}
-use Rattle.driving.specs.Stepped.{benchOf, heldOf, ImageAfter}
+use Rattle.driving.specs.Stepped.{benchOf, heldOf, leftBy}
 use Rattle.driving.proofs.start.Reads as start
 use Rattle.driving.proofs.step.Reads as step
 use Rattle.driving.proofs.image_after.Reads as image-after
@@ -48,94 +48,94 @@ module _ (κs : Lfts 4) (x y z w : Place) (out image buffer : List ℕ) (held : 
   -- the card after a gap thrown away, or any other card in its place
   step-gap-card : (wrong .held .card ≡ done .card → ⊥)
       → RuledOut (step.Post κs) (lent x out, (held, (lent y image, (lent z buffer, (lent w (71 ∷ []), tt))))) wrong
-  unfolding callStep callOf callSize wholeCall afterCall gapStep lineStep benchOf heldOf withCard withBuffer
-  step-gap-card other s p = other (ap (λ (h : Held). h .card) (p .holds))
+  unfolding callStep callFound callSize wholeCall afterCall gapStep lineStep benchOf leftBy heldOf withCard withBuffer
+  step-gap-card other s p = other (ap (λ (l : Left). l .held .card) (p .0 .answers))
 
   -- no call let follow behind a gap
   step-gap-more : (wrong .more ≡ true → ⊥)
       → RuledOut (step.Post κs) (lent x out, (held, (lent y image, (lent z buffer, (lent w (71 ∷ []), tt))))) wrong
-  unfolding callStep callOf callSize wholeCall afterCall gapStep lineStep benchOf
-  step-gap-more other s p = other (p .more)
+  unfolding callStep callFound callSize wholeCall afterCall gapStep lineStep benchOf leftBy
+  step-gap-more other s p = other (ap (λ (l : Left). l .more) (p .0 .answers))
 
   -- an octet of the buffer changed behind a gap's reply
   step-gap-behind : (left : List ℕ) (i : ℕ) → (getD left (length (done .reply) + i) 0 ≡ getD buffer (length (done .reply) + i) 0 → ⊥)
       → RuledOutWith (λ s. now (s .1 .1 .1 .0)) (step.Post κs) (lent x out, (held, (lent y image, (lent z buffer, (lent w (71 ∷ []), tt))))) wrong left
-  unfolding callStep callOf callSize wholeCall afterCall gapStep lineStep benchOf withCard withBuffer
+  unfolding callStep callFound callSize wholeCall afterCall gapStep lineStep benchOf leftBy withCard withBuffer
   step-gap-behind left i other s e p =
       let reply = done .reply in
-      other (ap (λ (l : List ℕ). getD l (length reply + i) 0) (sym e ∙ p .leaves)
+      other (ap (λ (l : List ℕ). getD l (length reply + i) 0) (sym e ∙ p .1)
       ∙ getD-append-add reply (drop (length reply) buffer) i 0 ∙ getD-drop (length reply) buffer i 0)
 
   -- two octets given to the card in another order, or any other card in its place
   step-octets-order : (a b : ℕ) → (wrong .held .card ≡ withOctets (held .card) (a ∷ b ∷ []) → ⊥)
       → RuledOut (step.Post κs) (lent x out, (held, (lent y image, (lent z buffer, (lent w (79 ∷ 0 ∷ 2 ∷ a ∷ b ∷ []), tt))))) wrong
-  unfolding callStep callOf callSize wholeCall lengthOf2 highFirst lowFirst afterCall benchOf heldOf withCard
-  step-octets-order a b other s p = other (ap (λ (h : Held). h .card) (p .holds))
+  unfolding callStep callFound callSize wholeCall lengthOf2 highFirst lowFirst afterCall benchOf leftBy heldOf withCard
+  step-octets-order a b other s p = other (ap (λ (l : Left). l .held .card) (p .0 .answers))
 
   -- the buffer changed by octets that come in
   step-octets-buffer : (a : ℕ) (left : List ℕ) → (left ≡ buffer → ⊥)
       → RuledOutWith (λ s. now (s .1 .1 .1 .0)) (step.Post κs)
       (lent x out, (held, (lent y image, (lent z buffer, (lent w (79 ∷ 0 ∷ 1 ∷ a ∷ []), tt))))) wrong left
-  unfolding callStep callOf callSize wholeCall lengthOf2 highFirst lowFirst afterCall benchOf withCard
-  step-octets-buffer a left other s e p = other (sym e ∙ p .leaves)
+  unfolding callStep callFound callSize wholeCall lengthOf2 highFirst lowFirst afterCall benchOf leftBy withCard
+  step-octets-buffer a left other s e p = other (sym e ∙ p .1)
 
   -- the octets of an O that is cut given to the card
   step-cut-card : (a : ℕ) → (wrong .held .card ≡ held .card → ⊥)
       → RuledOut (step.Post κs) (lent x out, (held, (lent y image, (lent z buffer, (lent w (79 ∷ 0 ∷ 2 ∷ a ∷ []), tt))))) wrong
-  unfolding callStep callOf callSize lengthOf2 highFirst lowFirst afterCall benchOf heldOf
-  step-cut-card a other s p = other (ap (λ (h : Held). h .card) (p .holds))
+  unfolding callStep callFound callSize lengthOf2 highFirst lowFirst afterCall benchOf leftBy heldOf
+  step-cut-card a other s p = other (ap (λ (l : Left). l .held .card) (p .0 .answers))
 
   -- a call let follow behind one that is cut
   step-cut-more : wrong .more ≡ true → RuledOut (step.Post κs) (lent x out, (held, (lent y image, (lent z buffer, (lent w (79 ∷ 0 ∷ []), tt))))) wrong
-  unfolding callStep callOf callSize afterCall benchOf
-  step-cut-more more s p = false≢true (sym (p .more) ∙ more)
+  unfolding callStep callFound callSize afterCall benchOf leftBy
+  step-cut-more more s p = false≢true (sym (ap (λ (l : Left). l .more) (p .0 .answers)) ∙ more)
 
   -- CUT for `cut`
   step-cut-case : (left : List ℕ) → 4 ≤ length out → (getD left 0 0 ≡ 99 → ⊥)
       → RuledOutWith (λ s. now (s .0)) (step.Post κs) (lent x out, (held, (lent y image, (lent z buffer, (lent w (79 ∷ 0 ∷ []), tt))))) wrong left
-  unfolding callStep callOf callSize afterCall benchOf fitsAt over
+  unfolding callStep callFound callSize afterCall benchOf leftBy fitsAt
   step-cut-case left room other s e p =
-      other (ap (λ (l : List ℕ). getD l 0 0) (sym e ∙ rw (le-leb 4 (length out) room) at (p .lined .leaves)))
+      other (ap (λ (l : List ℕ). getD l 0 0) (sym e ∙ rw (le-leb 4 (length out) room) at (p .0 .left-so)))
 
   -- a B of 301 taken
   step-room-over : wrong .more ≡ true
       → RuledOut (step.Post κs) (lent x out, (held, (lent y image, (lent z buffer, (lent w (66 ∷ 1 ∷ 45 ∷ []), tt))))) wrong
-  unfolding callStep callOf callSize wholeCall lengthOf2 highFirst lowFirst afterCall benchOf
-  step-room-over more s p = false≢true (sym (p .more) ∙ more)
+  unfolding callStep callFound callSize wholeCall lengthOf2 highFirst lowFirst afterCall benchOf leftBy
+  step-room-over more s p = false≢true (sym (ap (λ (l : Left). l .more) (p .0 .answers)) ∙ more)
 
   -- a B of 300 not taken
   step-room-most : (wrong .held .room ≡ 300 → ⊥)
       → RuledOut (step.Post κs) (lent x out, (held, (lent y image, (lent z buffer, (lent w (66 ∷ 1 ∷ 44 ∷ []), tt))))) wrong
-  unfolding callStep callOf callSize wholeCall lengthOf2 highFirst lowFirst afterCall benchOf heldOf withRoom
-  step-room-most other s p = other (ap (λ (h : Held). h .room) (p .holds))
+  unfolding callStep callFound callSize wholeCall lengthOf2 highFirst lowFirst afterCall benchOf leftBy heldOf withRoom
+  step-room-most other s p = other (ap (λ (l : Left). l .held .room) (p .0 .answers))
 
   -- a clock of six octets and a 0, whenever the seventh is not 0
   step-clock-six : (a b c d e f g : ℕ) → (0 ≡ g → ⊥) → wrong .held .clock ≡ a ∷ b ∷ c ∷ d ∷ e ∷ f ∷ 0 ∷ []
       → RuledOut (step.Post κs) (lent x out, (held, (lent y image, (lent z buffer, (lent w (67 ∷ a ∷ b ∷ c ∷ d ∷ e ∷ f ∷ g ∷ []), tt))))) wrong
-  unfolding callStep callOf callSize wholeCall afterCall benchOf heldOf withClock over
-  step-clock-six a b c d e f g some six s p = some (ap (λ (l : List ℕ). getD l 6 0) (sym six ∙ ap (λ (h : Held). h .clock) (p .holds)))
+  unfolding callStep callFound callSize wholeCall afterCall benchOf leftBy heldOf withClock clockAt over
+  step-clock-six a b c d e f g some six s p = some (ap (λ (l : List ℕ). getD l 6 0) (sym six ∙ ap (λ (l : Left). l .held .clock) (p .0 .answers)))
 
 module _ (κs : Lfts 2) (x y : Place) (space : List ℕ) (had wrong : ℕ) where
   -- the image of an I not lent, its octets not counted
   image-after-count : (a : ℕ) → 1 ≤ length space → (wrong ≡ 1 → ⊥)
       → RuledOut (image-after.Post κs) (lent x space, (had, (lent y (73 ∷ 0 ∷ 0 ∷ 1 ∷ a ∷ []), tt))) wrong
-  unfolding ImageAfter callOf callSize wholeCall lengthOf3 highFirst lowFirst fitsAt
-  image-after-count a room other s p = other (rw (le-leb 1 (length space) room) at (p .counts))
+  unfolding callFound callSize wholeCall lengthOf3 highFirst lowFirst fitsAt
+  image-after-count a room other s p = other (rw (le-leb 1 (length space) room) at (p .answers))
 
   -- the image of an I not in the first octets of its space
   image-after-first : (a : ℕ) (left : List ℕ) → 1 ≤ length space → (getD left 0 0 ≡ a → ⊥)
       → RuledOutWith (λ s. now (s .0)) (image-after.Post κs) (lent x space, (had, (lent y (73 ∷ 0 ∷ 0 ∷ 1 ∷ a ∷ []), tt))) wrong left
-  unfolding ImageAfter callOf callSize wholeCall lengthOf3 highFirst lowFirst fitsAt over
+  unfolding callFound callSize wholeCall lengthOf3 highFirst lowFirst fitsAt
   image-after-first a left room other s e p =
-      other (ap (λ (l : List ℕ). getD l 0 0) (sym e ∙ rw (le-leb 1 (length space) room) at (p .leaves)))
+      other (ap (λ (l : List ℕ). getD l 0 0) (sym e ∙ rw (le-leb 1 (length space) room) at (p .left-so)))
 
   -- another image behind a gap than before it
   image-after-gap : (wrong ≡ had → ⊥) → RuledOut (image-after.Post κs) (lent x space, (had, (lent y (71 ∷ []), tt))) wrong
-  unfolding ImageAfter callOf callSize wholeCall
-  image-after-gap other s p = other (p .0)
+  unfolding callFound callSize wholeCall
+  image-after-gap other s p = other (p .answers)
 
   -- the octets of an O put into the image's space
   image-after-octets : (a : ℕ) (left : List ℕ) → (left ≡ space → ⊥)
       → RuledOutWith (λ s. now (s .0)) (image-after.Post κs) (lent x space, (had, (lent y (79 ∷ 0 ∷ 1 ∷ a ∷ []), tt))) wrong left
-  unfolding ImageAfter callOf callSize wholeCall lengthOf2 highFirst lowFirst
-  image-after-octets a left other s e p = other (sym e ∙ p .1)
+  unfolding callFound callSize wholeCall lengthOf2 highFirst lowFirst
+  image-after-octets a left other s e p = other (sym e ∙ p .left-so)

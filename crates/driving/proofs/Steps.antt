@@ -9,14 +9,13 @@ use borrow.Author.Tests.{le-leb}
 use lib.ListN.{length, take, drop, length-append, length-take, length-drop}
 use lib.Seq.{take-append-seam}
 use Rattle.octets.specs.Choice.{if_then_else_}
-use Rattle.octets.specs.Over.{fitsAt}
+use Rattle.octets.specs.Over.{fitsAt, laidIn}
 use Rattle.octets.proofs.Choice.{if-both}
-use Rattle.octets.proofs.Over.{over-first}
-use Rattle.carrying.specs.declared.Order.{Order}
+use Rattle.deeds.specs.declared.Order.{Order}
 use Rattle.card.specs.Gap.{gapped}
 use Rattle.input.specs.declared.Call.{Call}
 use Rattle.input.specs.declared.Call.the-variants as call
-use Rattle.input.specs.Input.{callSize, callOf}
+use Rattle.input.specs.Input.{callSize, callFound}
 use Rattle.printing.specs.Text.{decimal, pairs}
 use Rattle.printing.specs.Line.{space, newline, beginning, timeText, gapLine}
 use Rattle.printing.proofs.Text.{pairs-length}
@@ -24,13 +23,13 @@ use Rattle.printing.proofs.Lines.{short-gap}
 use Rattle.driving.specs.declared.Held.{Held}
 use Rattle.driving.specs.declared.Left.{Left}
 use Rattle.driving.specs.Driven.{Bench, withImage, withClock, withRoom, withCard, withBuffer, imageOf}
-use Rattle.driving.specs.Driven.{repliedIn, lineStep, gapStep, afterCall, callStep, firstCall, behindCall, stepsText}
-use Rattle.driving.specs.Stepped.{benchOf, heldOf, Stepped, Stood, ImageAfter}
+use Rattle.driving.specs.Driven.{lineStep, gapStep, afterCall, callStep, firstCall, behindCall, stepsText}
+use Rattle.driving.specs.Stepped.{benchOf, heldOf, leftBy, Stepped, ImageAfter}
 use Rattle.driving.proofs.Calls.{call-one, image-most}
 
 -- nothing is written where nothing is left
 steps-none : (fuel : ℕ) (b : Bench) (rest : List ℕ) → length rest ≤ 0 → stepsText fuel b rest ≡ []
-unfolding stepsText callStep callOf callSize afterCall
+unfolding stepsText callStep callFound callSize afterCall
 steps-none zero b rest h = refl
 steps-none (suc fuel) b [] h = refl
 steps-none (suc fuel) b (octet ∷ rest) h = absurd (omega arith)
@@ -61,40 +60,36 @@ steps-next b rest =
     (λ _. steps-same (length rest) (length (behindCall rest)) (s .bench) (behindCall rest) (omega (arith, length-drop (callSize rest) rest)) (omega arith))
     (λ _. refl))
 
--- an image that fits its space stands there
-stood-image : {space image left : List ℕ} {had count : ℕ} → length image ≤ length space → Stood space had image count left → take count left ≡ image
-unfolding fitsAt
-stood-image {space} {image} fits p =
-    let test = le-leb (0 + length image) (length space) (omega arith) in
-    rw (rw test at (p .counts), rw (test, over-first) at (p .leaves)) (take-append-seam image (drop (length image) space))
-
--- the image that the next call meets
-image-next : (x : Call) (b : Bench) (octets space : List ℕ) (had count : ℕ) (left : List ℕ) → b .image ≡ take had space
-    → (x ≡ call.Image → length (imageOf octets) ≤ length space) → ImageAfter x space had octets count left
-    → take count left ≡ afterCall x b octets .bench .image
-unfolding ImageAfter afterCall withImage withClock withRoom withCard withBuffer gapStep lineStep
-image-next call.Image b octets space had count left e fits p = stood-image (fits refl) p
-image-next call.End b octets space had count left e fits p = rw (p .0, p .1) (sym e)
-image-next call.Cut b octets space had count left e fits p = rw (p .0, p .1) (sym e)
-image-next call.Wrong b octets space had count left e fits p = rw (p .0, p .1) (sym e)
-image-next call.Clock b octets space had count left e fits p = rw (p .0, p .1) (sym e)
-image-next call.Room b octets space had count left e fits p = rw (p .0, p .1) (sym e)
-image-next call.Octets b octets space had count left e fits p = rw (p .0, p .1) (sym e)
-image-next call.Gap b octets space had count left e fits p = rw (p .0, p .1) (sym e)
+-- the image that the next call meets: the one before, or that of an I, which fits its space
+module _ (b : Bench) (octets space : List ℕ) (had count : ℕ) (left : List ℕ) (e : b .image ≡ take had space) where
+  image-next : (x : Call) → (x ≡ call.Image → length (imageOf octets) ≤ length space) → ImageAfter x space had (imageOf octets) count left
+      → take count left ≡ afterCall x b octets .bench .image
+  unfolding afterCall withImage withClock withRoom withCard withBuffer gapStep lineStep fitsAt
+  image-next call.Image fits p =
+      let image = imageOf octets in
+      let after = rw (le-leb (0 + length image) (length space) (omega (arith, fits refl))) at p in
+      rw (after .answers, after .left-so) (take-append-seam image (drop (length image) space))
+  image-next call.End fits p = rw (p .answers, p .left-so) (sym e)
+  image-next call.Cut fits p = rw (p .answers, p .left-so) (sym e)
+  image-next call.Wrong fits p = rw (p .answers, p .left-so) (sym e)
+  image-next call.Clock fits p = rw (p .answers, p .left-so) (sym e)
+  image-next call.Room fits p = rw (p .answers, p .left-so) (sym e)
+  image-next call.Octets fits p = rw (p .answers, p .left-so) (sym e)
+  image-next call.Gap fits p = rw (p .answers, p .left-so) (sym e)
 
 -- the bench that the next call meets, of an image that fits its space
-pub bench-next : {under buffer′ left : List ℕ} {r : Left} (held : Held) (space buffer octets : List ℕ) (had count : ℕ) (space′ : List ℕ)
-    → (callOf octets ≡ call.Image → length (imageOf octets) ≤ length space)
+pub bench-next : (under : List ℕ) {buffer′ left : List ℕ} {r : Left} (held : Held) (space buffer octets : List ℕ) (had count : ℕ) (space′ : List ℕ)
+    → (callFound octets ≡ call.Image → length (imageOf octets) ≤ length space)
     → Stepped under (callStep (benchOf held (take had space) buffer) octets) r buffer′ left
-    → ImageAfter (callOf octets) space had octets count space′
+    → ImageAfter (callFound octets) space had (imageOf octets) count space′
     → benchOf (r .held) (take count space′) buffer′ ≡ callStep (benchOf held (take had space) buffer) octets .bench
-unfolding benchOf heldOf callStep
-bench-next held space buffer octets had count space′ fits p i =
+unfolding benchOf heldOf callStep leftBy
+bench-next under held space buffer octets had count space′ fits p i =
     let b : Bench = benchOf held (take had space) buffer in
-    rw (p .holds, p .leaves, image-next (callOf octets) b octets space had count space′ refl fits i)
+    rw (p .0 .answers, p .1, image-next b octets space had count space′ refl (callFound octets) fits i)
 
 -- the program's space, of 65,600 octets, has room for every image that is lent
-pub image-fits : (rest : List ℕ) → callOf (firstCall rest) ≡ call.Image → length (imageOf (firstCall rest)) ≤ 65600
+pub image-fits : (rest : List ℕ) → callFound (firstCall rest) ≡ call.Image → length (imageOf (firstCall rest)) ≤ 65600
 image-fits rest e = omega (arith, image-most rest e, length-take (callSize rest) rest, length-drop 4 (firstCall rest))
 
 -- the line of a gap is short
@@ -118,8 +113,8 @@ text-call call.Room b octets h = omega arith
 text-call call.Octets b octets h = omega arith
 text-call call.Gap b octets h =
     let o = gapped (b .card) (b .image) (b .clock) (length (take (b .room) (b .buffer))) in
-    omega (arith, line-length (o .number) (length (o .reply)) (o .order) (o .time) (o .card .damaged) (repliedIn (o .reply) (b .buffer)))
+    omega (arith, line-length (o .number) (length (o .reply)) (o .order) (o .time) (o .card .damaged) (laidIn (b .buffer) (o .reply)))
 
 pub text-fits : (b : Bench) (octets : List ℕ) → length (callStep b octets .bench .buffer) ≤ 300 → length (callStep b octets .text) ≤ 1024
 unfolding callStep
-text-fits b octets h = text-call (callOf octets) b octets h
+text-fits b octets h = text-call (callFound octets) b octets h

@@ -4,17 +4,17 @@ use mathlib.Core.List.{[], _∷_}
 use mathlib.Core.Path.{_≡_, refl}
 use lib.ListN.{replicate}
 use Rattle.octets.specs.Numbers.{lowFirst, highFirst}
-use Rattle.carrying.specs.declared.Order.the-variants.{Nothing}
+use Rattle.deeds.specs.declared.Order.the-variants.{NoOrder}
 use Rattle.card.specs.State.{cardAtPowerOn}
 use Rattle.card.specs.Gap.{refusal, gapped}
-use Rattle.input.specs.Input.{lengthOf2, callSize, wholeCall, callOf}
+use Rattle.input.specs.Input.{lengthOf2, callSize, wholeCall, callFound}
 use Rattle.printing.specs.Text.{figures, decimal, hexFigure, pairOf, pairs}
 use Rattle.printing.specs.Line.{cutLine, beginning, gapLine}
 use Rattle.driving.specs.Driven.{callLine, atStart, withRoom, withCard, withBuffer, lineStep, gapStep, afterCall, callStep, stepsText, driven}
 
 -- each name stands for the definitions of a call and of a gap's line: to unfold it is to unfold these
 unfoldable of-call : Unit {0}
-unfolding driven stepsText callStep callOf callSize wholeCall lengthOf2 highFirst lowFirst afterCall atStart withRoom withCard withBuffer
+unfolding driven stepsText callStep callFound callSize wholeCall lengthOf2 highFirst lowFirst afterCall atStart withRoom withCard withBuffer
 of-call = tt
 
 unfoldable of-gap : Unit {0}
@@ -33,6 +33,6 @@ call-written : driven (90 ∷ 71 ∷ []) ≡ callLine
 unfolding of-call
 call-written = refl
 
-gap-written : driven (66 ∷ 1 ∷ 4 ∷ 71 ∷ []) ≡ gapLine 9 0 Nothing (replicate 10 0) 0 (replicate 300 0xAA)
+gap-written : driven (66 ∷ 1 ∷ 4 ∷ 71 ∷ []) ≡ gapLine 9 0 NoOrder (replicate 10 0) 0 (replicate 300 0xAA)
 unfolding of-call of-gap
 gap-written = refl

@@ -5,12 +5,13 @@ use mathlib.Core.Bool.{Bool, true, false}
 use mathlib.Core.List.{List, [], _∷_, _++_}
 use lib.ListN.{length, take, drop, replicate}
 use Rattle.octets.specs.Choice.{if_then_else_}
+use Rattle.octets.specs.Over.{laidIn}
 use Rattle.card.specs.declared.Card.{Card}
 use Rattle.card.specs.State.{cardAtPowerOn, withOctets}
 use Rattle.card.specs.Gap.{Outcome, gapped}
 use Rattle.input.specs.declared.Call.{Call}
 use Rattle.input.specs.declared.Call.the-variants as call
-use Rattle.input.specs.Input.{lengthOf2, callSize, callOf}
+use Rattle.input.specs.Input.{lengthOf2, clockAt, callSize, callFound}
 use Rattle.printing.specs.Line.{cutLine, newline, gapLine}
 
 -- the fixed words, each on a line of its own: call; and cut (`printing`)
@@ -59,48 +60,38 @@ silentStep b = record { text = []; bench = b; more = true }
 abbrev pub lastStep : List ℕ → Bench → Step
 lastStep text b = record { text = text; bench = b; more = false }
 
--- a gap's reply stands in the first octets of the buffer, the rest unchanged
-abbrev pub repliedIn : List ℕ → List ℕ → List ℕ
-repliedIn reply buffer = reply ++ drop (length reply) buffer
-
--- the line of a gap: number, length, order, the order's octets, the count of damaged runs after the gap, all of the buffer
+-- the line of a gap: number, length, order, the order's octets, the count of damaged runs after the gap, all of the buffer, in whose first
+-- octets the reply stands
 unfoldable pub lineStep : Outcome → Bench → Step
-lineStep o b = record {
-  text = gapLine (o .number) (length (o .reply)) (o .order) (o .time) (o .card .damaged) (repliedIn (o .reply) (b .buffer));
-  bench = withCard (o .card) (withBuffer (repliedIn (o .reply) (b .buffer)) b);
-  more = true;
-}
+lineStep o b =
+    let buffer = laidIn (b .buffer) (o .reply) in
+    record {
+      text = gapLine (o .number) (length (o .reply)) (o .order) (o .time) (o .card .damaged) buffer;
+      bench = withCard (o .card) (withBuffer buffer b);
+      more = true;
+    }
 
 -- a gap is lent the first octets of the buffer, so many as there is room
 unfoldable pub gapStep : Bench → Step
 gapStep b = lineStep (gapped (b .card) (b .image) (b .clock) (length (take (b .room) (b .buffer)))) b
 
--- what stands behind a call's letter and length; a clock has 7 octets
+-- the image of an I stands behind its letter and a length of 3 octets
 abbrev pub imageOf : List ℕ → List ℕ
 imageOf octets = drop 4 octets
 
-abbrev pub clockOf : List ℕ → List ℕ
-clockOf octets = take 7 (drop 1 octets)
-
-abbrev pub roomOf : List ℕ → ℕ
-roomOf octets = lengthOf2 octets 1
-
-abbrev pub givenOf : List ℕ → List ℕ
-givenOf octets = drop 3 octets
-
--- a call by what it is: input that ends between two calls just ends; the octets of an O are given to the card one by one
+-- a call by what it is: input that ends between two calls just ends; the octets of an O, behind a length of 2 octets, come in one by one
 unfoldable pub afterCall : Call → Bench → List ℕ → Step
 afterCall call.End b octets = lastStep [] b
 afterCall call.Cut b octets = lastStep cutLine b
 afterCall call.Wrong b octets = lastStep callLine b
 afterCall call.Image b octets = silentStep (withImage (imageOf octets) b)
-afterCall call.Clock b octets = silentStep (withClock (clockOf octets) b)
-afterCall call.Room b octets = silentStep (withRoom (roomOf octets) b)
-afterCall call.Octets b octets = silentStep (withCard (withOctets (b .card) (givenOf octets)) b)
+afterCall call.Clock b octets = silentStep (withClock (clockAt octets 1) b)
+afterCall call.Room b octets = silentStep (withRoom (lengthOf2 octets 1) b)
+afterCall call.Octets b octets = silentStep (withCard (withOctets (b .card) (drop 3 octets)) b)
 afterCall call.Gap b octets = gapStep b
 
 unfoldable pub callStep : Bench → List ℕ → Step
-callStep b octets = afterCall (callOf octets) b octets
+callStep b octets = afterCall (callFound octets) b octets
 
 -- what is left of an input begins with a call
 abbrev pub firstCall : List ℕ → List ℕ

@@ -1,20 +1,20 @@
 -- What the functions that do a call return, and what they leave of the image's space, the reply buffer and the buffer for the text.
 -- Assumes nothing.
 use Prim.Native.Nat.{ℕ}
-use mathlib.Core.Bool.{true, false}
-use mathlib.Core.List.{List}
+use mathlib.Core.Bool.{Bool, true, false, _&&_}
+use mathlib.Core.List.{List, []}
 use mathlib.Core.Path.{_≡_}
-use lib.ListN.{length, replicate}
+use lib.ListN.{length}
 use Rattle.octets.specs.Choice.{if_then_else_}
-use Rattle.octets.specs.Over.{over, fitsAt}
+use Rattle.octets.specs.Over.{fitsAt, laidIn, Does}
 use Rattle.card.specs.declared.Card.{Card}
 use Rattle.card.specs.declared.Gone.{Gone}
 use Rattle.input.specs.declared.Call.{Call}
 use Rattle.input.specs.declared.Call.the-variants as call
-use Rattle.printing.specs.Line.{gapLine, Lined}
+use Rattle.printing.specs.Line.{gapLine, fitting}
 use Rattle.driving.specs.declared.Held.{Held}
 use Rattle.driving.specs.declared.Left.{Left}
-use Rattle.driving.specs.Driven.{Bench, Step, imageOf, clockOf}
+use Rattle.driving.specs.Driven.{Bench, Step}
 
 -- the bench in its parts: what is held by value, and the image and the buffer, which are lent
 unfoldable pub benchOf : Held → List ℕ → List ℕ → Bench
@@ -23,54 +23,41 @@ benchOf held image buffer = record { card = held .card; image = image; clock = h
 unfoldable pub heldOf : Bench → Held
 heldOf b = record { card = b .card; clock = b .clock; room = b .room }
 
--- `Stepped under s r buffer left`: what the step `s` returns, and what it leaves of the reply buffer and, behind its text, of the buffer `under`;
--- a text that does not fit is not written
-pub record Stepped (under : List ℕ) (s : Step) (r : Left) (buffer left : List ℕ) : Type 0 where
-  pub lined : Lined under (s .text) (r .count) left
-  pub holds : r .held ≡ heldOf (s .bench)
-  pub more : r .more ≡ s .more
-  pub leaves : buffer ≡ s .bench .buffer
+-- the result of a call that writes a text
+unfoldable pub leftBy : List ℕ → Held → Bool → Left
+leftBy text held more = record { count = length text; held = held; more = more }
 
--- what is held with one part that is another: the card, the clock, the room
-unfoldable pub heldCard : Card → Held → Held
-heldCard card held = record { card = card; clock = held .clock; room = held .room }
+-- `Writes under text held more r left`: what is returned, and what is left of the buffer `under`: the text in its first octets, the rest
+-- unchanged; a text that does not fit is not written
+abbrev pub Writes : List ℕ → List ℕ → Held → Bool → Left → List ℕ → Type 0
+Writes under text held more r left = Does (leftBy (fitting under text) held more) (laidIn under (fitting under text)) r left
 
-unfoldable pub heldClock : List ℕ → Held → Held
-heldClock clock held = record { card = held .card; clock = clock; room = held .room }
+-- `Stepped under s r buffer left`: so of the step `s`, with what it leaves of the reply buffer
+abbrev pub Stepped : List ℕ → Step → Left → List ℕ → List ℕ → Type 0
+Stepped under s r buffer left = Writes under (s .text) (heldOf (s .bench)) (s .more) r left × (buffer ≡ s .bench .buffer)
 
-unfoldable pub heldRoom : ℕ → Held → Held
-heldRoom room held = record { card = held .card; clock = held .clock; room = room }
-
--- a clock put over seven zeros; that of a whole C is as long as they are
-abbrev pub clockPut : List ℕ → List ℕ
-clockPut octets = over (replicate 7 0) 0 (clockOf octets)
+-- no text, and another call may follow
+unfoldable pub silentLeft : Card → List ℕ → ℕ → Left
+silentLeft card clock room = leftBy [] (record { card = card; clock = clock; room = room }) true
 
 -- the line of what a gap returned
 unfoldable pub goneLine : Gone → List ℕ → List ℕ
 goneLine gone buffer = gapLine (gone .number) (gone .length) (gone .order) (gone .time) (gone .card .damaged) buffer
 
--- no text, and another call may follow
-unfoldable pub silentLeft : Held → Left
-silentLeft held = record { count = 0; held = held; more = true }
+-- an I alone has an image
+abbrev pub isImage : Call → Bool
+isImage call.Image = true
+isImage call.End = false
+isImage call.Cut = false
+isImage call.Wrong = false
+isImage call.Clock = false
+isImage call.Room = false
+isImage call.Octets = false
+isImage call.Gap = false
 
--- `Said under text held r left`: a last line, and all as it was
-pub record Said (under text : List ℕ) (held : Held) (r : Left) (left : List ℕ) : Type 0 where
-  pub lined : Lined under text (r .count) left
-  pub keeps : r .held ≡ held
-  pub more : r .more ≡ false
-
--- `Stood space had image r left`: an image that fits stands in the first octets of the space and all its octets count; else all is as it was
-pub record Stood (space : List ℕ) (had : ℕ) (image : List ℕ) (r : ℕ) (left : List ℕ) : Type 0 where
-  pub counts : r ≡ (if fitsAt space 0 image then length image else had)
-  pub leaves : left ≡ (if fitsAt space 0 image then over space 0 image else space)
-
--- `ImageAfter call space had octets r left`: the image that stands in its space behind a call: that of an I, else the one before
-unfoldable pub ImageAfter : Call → List ℕ → ℕ → List ℕ → ℕ → List ℕ → Type 0
-ImageAfter call.Image space had octets r left = Stood space had (imageOf octets) r left
-ImageAfter call.End space had octets r left = (r ≡ had) × (left ≡ space)
-ImageAfter call.Cut space had octets r left = (r ≡ had) × (left ≡ space)
-ImageAfter call.Wrong space had octets r left = (r ≡ had) × (left ≡ space)
-ImageAfter call.Clock space had octets r left = (r ≡ had) × (left ≡ space)
-ImageAfter call.Room space had octets r left = (r ≡ had) × (left ≡ space)
-ImageAfter call.Octets space had octets r left = (r ≡ had) × (left ≡ space)
-ImageAfter call.Gap space had octets r left = (r ≡ had) × (left ≡ space)
+-- `ImageAfter call space had image r left`: the image of an I that fits stands in the first octets of its space, and all its octets count; else
+-- those that counted before do, and the space is as it was
+abbrev pub ImageAfter : Call → List ℕ → ℕ → List ℕ → ℕ → List ℕ → Type 0
+ImageAfter call space had image r left =
+    let comes = isImage call && fitsAt space 0 image in
+    Does (if comes then length image else had) (if comes then laidIn space image else space) r left

@@ -1,12 +1,14 @@
 // The calls of the driving program: what each does to the bench, so that the program only reads, steps and writes.
+ghost use mathlib.Core.Bool.{false};
 ghost use mathlib.Core.Path.{_≡_};
 ghost use lib.ListN.{length, take};
 ghost use Rattle.card.specs.State.{withOctets};
 ghost use Rattle.card.specs.Gap.{gapped, Gapped};
-ghost use Rattle.input.specs.Input.{callOf};
+ghost use Rattle.input.specs.declared.Call.the-variants as call;
+ghost use Rattle.input.specs.Input.{callFound};
 ghost use Rattle.printing.specs.Line.{Lined};
-ghost use Rattle.driving.specs.Driven.{atStart, imageOf, roomOf, givenOf, gapStep, callStep};
-ghost use Rattle.driving.specs.Stepped.{benchOf, heldOf, heldCard, heldClock, heldRoom, clockPut, silentLeft, goneLine, Stepped, Said, Stood, ImageAfter};
+ghost use Rattle.driving.specs.Driven.{atStart, imageOf, gapStep, callStep};
+ghost use Rattle.driving.specs.Stepped.{benchOf, heldOf, goneLine, silentLeft, Writes, Stepped, ImageAfter};
 use card::Card;
 use card::Gone;
 use input::Call;
@@ -27,70 +29,24 @@ pub struct Left {
 
 // A last line, and all as it was.
 fn last(out: &mut [u8], text: &[u8], held: Held) -> Left
-    ensures { λ r. ⌜ Said (now (out .entry)) (now (text .entry)) held r (now (out .exit)) ⌝ }
+    ensures { λ r. ⌜ Writes (now (out .entry)) (now (text .entry)) held false r (now (out .exit)) ⌝ }
 {
-    if octets::put(out, 0, text) {
-        return Left {
-            count: text.len(),
-            held,
-            more: false,
-        };
-    }
     Left {
-        count: 0,
+        count: printing::put_text(out, text),
         held,
         more: false,
     }
 }
 
 // No text, and another call may follow.
-fn silent(held: Held) -> Left
-    ensures { λ r. ⌜ r ≡ silentLeft held ⌝ }
+fn silent(card: Card, clock: [u8; 7], room: u16) -> Left
+    ensures { λ r. ⌜ r ≡ silentLeft card clock room ⌝ }
 {
     Left {
         count: 0,
-        held,
+        held: Held { card, clock, room },
         more: true,
     }
-}
-
-// Another card is held.
-fn with_card(held: Held, card: Card) -> Held
-    ensures { λ r. ⌜ r ≡ heldCard card held ⌝ }
-{
-    let clock = held.clock;
-    Held {
-        card,
-        clock,
-        room: held.room,
-    }
-}
-
-// The clock from now on.
-fn with_clock(held: Held, call: &[u8]) -> Left
-    ensures { λ r. ⌜ r ≡ silentLeft (heldClock (clockPut (now (call .entry))) held) ⌝ }
-{
-    let card = held.card;
-    let mut clock = [0; 7];
-    octets::put(&mut clock, 0, octets::part(call, 1, 7));
-    silent(Held {
-        card,
-        clock,
-        room: held.room,
-    })
-}
-
-// How much of the reply buffer is lent from now on.
-fn with_room(held: Held, call: &[u8]) -> Left
-    ensures { λ r. ⌜ r ≡ silentLeft (heldRoom (roomOf (now (call .entry))) held) ⌝ }
-{
-    let card = held.card;
-    let clock = held.clock;
-    silent(Held {
-        card,
-        clock,
-        room: input::length_of_2(call, 1),
-    })
 }
 
 // Octets come in one by one, as a line delivers them.
@@ -104,15 +60,6 @@ fn octet_by_octet(card: Card, octets: &[u8]) -> Card
         i += 1;
     }
     next
-}
-
-// The octets of an O are given to the card that is held.
-fn with_octets(held: Held, call: &[u8]) -> Left
-    ensures { λ r. ⌜ r ≡ silentLeft (heldCard (withOctets (held .card) (givenOf (now (call .entry)))) held) ⌝ }
-{
-    let card = held.card;
-    let next = octet_by_octet(card, octets::part(call, 3, call.len()));
-    silent(with_card(held, next))
 }
 
 // A gap that is lent so many octets of the buffer, or as many as it has.
@@ -153,7 +100,11 @@ fn gap(out: &mut [u8], held: Held, image: &[u8], buffer: &mut [u8]) -> Left
     let after = gone.card;
     Left {
         count: line(out, gone, buffer),
-        held: with_card(held, after),
+        held: Held {
+            card: after,
+            clock,
+            room: held.room,
+        },
         more: true,
     }
 }
@@ -164,23 +115,29 @@ pub fn step(out: &mut [u8], held: Held, image: &[u8], buffer: &mut [u8], call: &
     ensures { λ r. ⌜ Stepped (now (out .entry)) (callStep (benchOf held (now (image .entry)) (now (buffer .entry))) (now (call .entry))) r (now (buffer .exit))
         (now (out .exit)) ⌝ }
 {
+    let card = held.card;
+    let clock = held.clock;
+    let room = held.room;
     match input::judge_call(call) {
         Call::End => last(out, b"", held),
         Call::Cut => last(out, b"cut\n", held),
         Call::Wrong => last(out, b"call\n", held),
-        Call::Image => silent(held),
-        Call::Clock => with_clock(held, call),
-        Call::Room => with_room(held, call),
-        Call::Octets => with_octets(held, call),
+        Call::Image => silent(card, clock, room),
+        Call::Clock => silent(card, input::clock_at(call, 1), room),
+        Call::Room => silent(card, clock, input::length_of_2(call, 1)),
+        Call::Octets => silent(
+            octet_by_octet(card, octets::part(call, 3, call.len())),
+            clock,
+            room,
+        ),
         Call::Gap => gap(out, held, image, buffer),
     }
 }
 
-// Puts the image of an I into its space, if it fits.
-fn stand(space: &mut [u8], had: usize, call: &[u8]) -> usize
-    ensures { λ r. ⌜ Stood (now (space .entry)) had (imageOf (now (call .entry))) r (now (space .exit)) ⌝ }
+// Puts an image into its space, if it fits.
+fn stand(space: &mut [u8], had: usize, image: &[u8]) -> usize
+    ensures { λ r. ⌜ ImageAfter call.Image (now (space .entry)) had (now (image .entry)) r (now (space .exit)) ⌝ }
 {
-    let image = octets::part(call, 4, call.len());
     if octets::put(space, 0, image) {
         return image.len();
     }
@@ -189,10 +146,10 @@ fn stand(space: &mut [u8], had: usize, call: &[u8]) -> usize
 
 // The image lent after a call: how many of its space's octets count. That of an I takes the place of the one before.
 pub fn image_after(space: &mut [u8], had: usize, call: &[u8]) -> usize
-    ensures { λ r. ⌜ ImageAfter (callOf (now (call .entry))) (now (space .entry)) had (now (call .entry)) r (now (space .exit)) ⌝ }
+    ensures { λ r. ⌜ ImageAfter (callFound (now (call .entry))) (now (space .entry)) had (imageOf (now (call .entry))) r (now (space .exit)) ⌝ }
 {
     match input::judge_call(call) {
-        Call::Image => stand(space, had, call),
+        Call::Image => stand(space, had, octets::part(call, 4, call.len())),
         _ => had,
     }
 }

@@ -13,6 +13,8 @@ use Rattle.octets.specs.Conditions.{holds}
 use Rattle.octets.specs.Sum.{checksum}
 use Rattle.octets.proofs.Choice.{refuted}
 use Rattle.octets.proofs.Conditions.{holds-at, holds-none, holds-more}
+use Rattle.frame.specs.declared.Fault.{Fault}
+use Rattle.frame.specs.declared.Fault.the-variants.{Empty, Long, Malformed, Spoiled}
 use Rattle.frame.specs.Family.{Family}
 use Rattle.frame.specs.Frame.{Frame, Verdict, refused, sound, covered, sumRight, fixedForm, variableForm, startOf, saidFixed, saidVariable, said, judge}
 
@@ -84,16 +86,16 @@ module _ (k : Family) (run : List ℕ) where
       simp (e, eq-eqb _ _ long, le-leb _ _ least, eq-eqb _ _ first, eq-eqb _ _ again, eq-eqb _ _ fourth, and-true)
 
   -- the verdicts
-  pub judge-empty : length run ≡ 0 → judge k run ≡ refused 1
+  pub judge-empty : length run ≡ 0 → judge k run ≡ refused Empty
   unfolding judge
   judge-empty e = rw (eq-eqb _ _ e)
 
-  pub judge-long : 261 < length run → judge k run ≡ refused 2
+  pub judge-long : 261 < length run → judge k run ≡ refused Long
   unfolding judge
   judge-long h = rw (ne-eqb (length run) 0 (λ e. omega arith), lt-ltb _ _ h)
 
   module _ (some : length run ≡ 0 → ⊥) (short : length run ≤ 261) where
-    pub judge-malformed : fixedForm k run ≡ false → variableForm k run ≡ false → judge k run ≡ refused 3
+    pub judge-malformed : fixedForm k run ≡ false → variableForm k run ≡ false → judge k run ≡ refused Malformed
     unfolding judge
     judge-malformed f v = rw (ne-eqb _ _ some, le-ltb _ _ short, f, v)
 
@@ -102,12 +104,12 @@ module _ (k : Family) (run : List ℕ) where
     by-sum true x y = refl
     by-sum false x y = refl
 
-    pub judge-fixed : fixedForm k run ≡ true → judge k run ≡ (if sumRight 1 run then sound (saidFixed k (covered 1 run)) else refused 4)
+    pub judge-fixed : fixedForm k run ≡ true → judge k run ≡ (if sumRight 1 run then sound (saidFixed k (covered 1 run)) else refused Spoiled)
     unfolding judge startOf said
     judge-fixed f = rw (ne-eqb _ _ some, le-ltb _ _ short, f) (by-sum (sumRight 1 run) _ _)
 
     pub judge-variable : fixedForm k run ≡ false → variableForm k run ≡ true
-        → judge k run ≡ (if sumRight 4 run then sound (saidVariable k (covered 4 run)) else refused 4)
+        → judge k run ≡ (if sumRight 4 run then sound (saidVariable k (covered 4 run)) else refused Spoiled)
     unfolding judge startOf said
     judge-variable f v = rw (ne-eqb _ _ some, le-ltb _ _ short, f, v) (by-sum (sumRight 4 run) _ _)
 
@@ -116,10 +118,10 @@ pub data Sound (k : Family) (run : List ℕ) (f : Frame) : Type 0 where
   as-fixed : FixedRun k run → sumRight 1 run ≡ true → f ≡ saidFixed k (covered 1 run) → Sound k run f
   as-variable : VariableRun k run → sumRight 4 run ≡ true → f ≡ saidVariable k (covered 4 run) → Sound k run f
 
-never : {n : ℕ} {f : Frame} → refused n ≡ sound f → ⊥
+never : {why : Fault} {f : Frame} → refused why ≡ sound f → ⊥
 never e = let z : _≡_ {A = ℕ} 0 1 = cc in omega arith
 
-picked : (t : Bool) (x f : Frame) → (if t then sound x else refused 4) ≡ sound f → (t ≡ true) × (f ≡ x)
+picked : (t : Bool) (x f : Frame) → (if t then sound x else refused Spoiled) ≡ sound f → (t ≡ true) × (f ≡ x)
 picked true x f e = (refl, cc)
 picked false x f e = absurd (never e)
 

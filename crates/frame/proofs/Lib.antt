@@ -1,7 +1,7 @@
 pub mod Sealed
 pub mod Frame
 pub mod Judging
-pub mod Control
+pub mod Controls
 pub mod Writing
 pub mod RoundTrip
 pub mod OneOctet

@@ -10,14 +10,14 @@ use lib.ListN.{length, getD, take, drop, length-append, length-take, length-drop
 use lib.Seq.{take-at, drop-at, take-all, drop-cons}
 use Rattle.octets.specs.Numbers.{lowFirst, lowOctets}
 use Rattle.octets.specs.Sum.{checksum}
+use Rattle.octets.specs.Keeping.{octetsOf}
 use Rattle.octets.proofs.Lists.{octetsAt, part-at}
 use Rattle.octets.proofs.Numbers.{Octets, octets-take, octets-drop, low-length, low-number, low-octets}
-use Rattle.address.specs.declared.LinkAddress.{LinkAddress}
-use Rattle.frame.specs.declared.Kind.{Kind}
-use Rattle.frame.specs.declared.Kind.the-variants.{Ack, Nack, Nothing, Status, Data}
+use Rattle.frame.specs.declared.Control.{Control}
+use Rattle.frame.specs.declared.Control.the-variants.{Ack, Nack, Data, NothingToGive, Status}
 use Rattle.frame.specs.declared.Reply.{Reply}
 use Rattle.frame.specs.Family.{Family, Proper, sapr}
-use Rattle.frame.specs.Writing.{userOf, frameAs, replyFrame, replyOctets}
+use Rattle.frame.specs.Writing.{frameAs, replyFrame, replyOctets}
 use Rattle.frame.specs.Frame.{Frame, sound, fixed, variable, covered, sumRight, saidFixed, saidVariable, judge, bodyOf, startWith, written}
 use Rattle.frame.proofs.Sealed.{sealed, sealed-length, sealed-body, sealed-sum, sealed-end, covered-length, unsealed}
 use Rattle.frame.proofs.Frame.{FixedRun, VariableRun, fixed-test, variable-test, not-fixed, judge-fixed, judge-variable, Sound, as-fixed, as-variable, sound-facts, sum-facts}
@@ -155,23 +155,23 @@ module _ (k : Family) (proper : Proper k) (run : List ℕ) (octets : Octets run)
 pub sapr-proper : Proper sapr
 sapr-proper = record { counts = omega arith; octet = omega arith }
 
-as-writable : (k : Kind) (a : ℕ) (user : List ℕ) → a < 65536 → length user ≤ 252 → Writable sapr (frameAs k a user)
+as-writable : (k : Control) (a : ℕ) (user : List ℕ) → a < 65536 → length user ≤ 252 → Writable sapr (frameAs k a user)
 as-writable Ack a user h l = h
 as-writable Nack a user h l = h
-as-writable Nothing a user h l = h
+as-writable NothingToGive a user h l = h
 as-writable Status a user h l = h
 as-writable Data a user h l = (h, omega arith, omega arith)
 
--- a reply is a sound frame of at most 261 octets that gives back what was meant, whatever the reply and the link address
-module _ (reply : Reply) (link : LinkAddress) (address : link .0 < 65536) (users : length (userOf reply) ≤ 252) where
-  reply-writable : Writable sapr (replyFrame reply link)
+-- a reply is a sound frame of at most 261 octets that gives back what was meant, whatever the reply
+module _ (reply : Reply) (address : reply .link .0 < 65536) (users : length (octetsOf (reply .user)) ≤ 252) where
+  reply-writable : Writable sapr (replyFrame reply)
   unfolding replyFrame
-  reply-writable = as-writable (reply .kind) (link .0) (userOf reply) address users
+  reply-writable = as-writable (reply .control) (reply .link .0) (octetsOf (reply .user)) address users
 
-  pub reply-back : judge sapr (replyOctets reply link) ≡ sound (replyFrame reply link)
+  pub reply-back : judge sapr (replyOctets reply) ≡ sound (replyFrame reply)
   unfolding replyOctets
-  reply-back = round-trip sapr sapr-proper (replyFrame reply link) reply-writable
+  reply-back = round-trip sapr sapr-proper (replyFrame reply) reply-writable
 
-  pub reply-length : length (replyOctets reply link) ≤ 261
+  pub reply-length : length (replyOctets reply) ≤ 261
   unfolding replyOctets
-  reply-length = at-most-261 sapr sapr-proper (replyFrame reply link) reply-writable
+  reply-length = at-most-261 sapr sapr-proper (replyFrame reply) reply-writable

@@ -9,6 +9,9 @@ use Rattle.octets.specs.Choice.{if_then_else_}
 use Rattle.octets.specs.Conditions.{holds}
 use Rattle.octets.specs.Numbers.{lowFirst, lowOctets}
 use Rattle.octets.specs.Sum.{checksum}
+use Rattle.octets.specs.First.{When, _⇒_▸_, firstOf_else_}
+use Rattle.frame.specs.declared.Fault.{Fault}
+use Rattle.frame.specs.declared.Fault.the-variants.{Empty, Long, Malformed, Spoiled}
 use Rattle.frame.specs.Family.{Family}
 
 -- what a frame says: control octet, address and, in the variable form, user octets
@@ -16,9 +19,9 @@ pub data Frame : Type 0 where
   fixed : ℕ → ℕ → Frame
   variable : ℕ → ℕ → List ℕ → Frame
 
--- what a run is: no sound frame, by the paper's number, or a sound one
+-- what a run is: no sound frame, and why, or a sound one
 pub data Verdict : Type 0 where
-  refused : ℕ → Verdict
+  refused : Fault → Verdict
   sound : Frame → Verdict
 
 -- C, A and user data: what stands behind so many start octets and before S and 16
@@ -63,11 +66,12 @@ module _ (k : Family) where
   -- 1 empty, 2 over 261 octets, 3 not the form of a frame, 4 checksum wrong
   unfoldable pub judge : List ℕ → Verdict
   judge run =
-      if eqb (length run) 0 then refused 1 else
-      if ltb 261 (length run) then refused 2 else
-      if not (fixedForm run || variableForm run) then refused 3 else
-      if not (sumRight (startOf run) run) then refused 4 else
-      sound (said run)
+      firstOf
+      eqb (length run) 0 ⇒ refused Empty ▸
+      ltb 261 (length run) ⇒ refused Long ▸
+      not (fixedForm run || variableForm run) ⇒ refused Malformed ▸
+      not (sumRight (startOf run) run) ⇒ refused Spoiled ▸ []
+      else sound (said run)
 
   -- the other way: a frame's octets
   unfoldable pub bodyOf : Frame → List ℕ

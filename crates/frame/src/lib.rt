@@ -1,21 +1,29 @@
 // Frames of FT 1.2: a run is judged, its control field read, a reply written.
 use address::LinkAddress;
 ghost use Prim.Native.Nat.{_+_, _≤_, min};
-ghost use mathlib.Core.List.{_++_};
+ghost use mathlib.Core.List.{[], _∷_, _++_};
 ghost use mathlib.Core.Path.{_≡_};
-ghost use lib.ListN.{length, drop, take};
+ghost use lib.ListN.{length, getD, drop, take};
 ghost use Rattle.frame.specs.Family.{sapr};
+ghost use Rattle.octets.specs.Numbers.{lowFirst};
+ghost use Rattle.octets.specs.Over.{Does};
 ghost use Rattle.frame.specs.Frame.{fixed, variable, fixedForm, variableForm, sumRight, judge, written};
-ghost use Rattle.frame.specs.Judging.{verdictSays, judgedSays, userPart};
-ghost use Rattle.frame.specs.Control.{offered, serviceSays};
-ghost use Rattle.frame.specs.Writing.{replyOctets, Wrote};
+ghost use Rattle.frame.specs.Judging.{faultNumber, verdictSays, judgedSays, userPart};
+ghost use Rattle.frame.specs.Controls.{offered};
+ghost use Rattle.frame.specs.Writing.{replyOctets, plain, answerTo, leftOf};
+use octets::Kept;
 
-// What a run is: empty, over 261 octets, not the form of a frame, with a wrong checksum, or a sound frame.
-pub enum Judged {
+// Why a run is no sound frame: empty, over 261 octets, not the form of a frame, a wrong checksum.
+pub enum Fault {
     Empty,
     Long,
     Malformed,
     Spoiled,
+}
+
+// What a run is: no sound frame, or a sound one.
+pub enum Judged {
+    Faulty(Fault),
     Fixed {
         control: u8,
         link: LinkAddress,
@@ -35,27 +43,32 @@ pub enum Form {
 
 // What the centre asks for, with the FCB where it counts.
 pub enum Service {
-    NotOffered,
     Reset,
     UserData(u8),
     Status,
     Collection(u8),
 }
 
-// The replies: acknowledged, not acknowledged, nothing to give, the link's status, data.
-pub enum Kind {
-    Ack,
-    Nack,
-    Nothing,
-    Status,
-    Data,
+// What a control field asks for: a service, or nothing that is offered.
+pub enum Asked {
+    Is(Service),
+    NotOffered,
 }
 
-// A reply: its kind and, for data, the first so many of its user octets. More than 252 cannot be given.
+// The control fields of replies: acknowledged, not acknowledged, data, nothing to give, the link's status.
+pub enum Control {
+    Ack,
+    Nack,
+    Data,
+    NothingToGive,
+    Status,
+}
+
+// A reply: its control field, the link address that it carries and, for data, its user octets.
 pub struct Reply {
-    pub kind: Kind,
-    pub user: [u8; 252],
-    pub users: u8,
+    pub control: Control,
+    pub link: LinkAddress,
+    pub user: Kept,
 }
 
 // The buffer is under 261 octets; or so many octets are written.
@@ -65,25 +78,61 @@ pub enum Written {
 }
 
 impl Judged {
+    // The start octets of the two forms, and the end octet of both.
+    pub const START_FIXED: u8 = 0x10;
+
+    pub const START_VARIABLE: u8 = 0x68;
+
+    pub const END: u8 = 0x16;
+
+    // Octets of a fixed frame, and of the longest.
     pub const FIXED: usize = 6;
 
     pub const LONGEST: usize = 261;
-    // Octets of a variable frame that are no user octets: 68 L L 68 C A A and S 16.
+
+    // Octets of a variable frame that are no user octets: 68 L L 68 C A A and S 16; and those that L does not count: all of these but C A A.
     pub const FRAMING: usize = 9;
 
-    pub const USERS: usize = 252;
+    pub const UNCOUNTED: usize = 6;
 }
 
-impl Kind {
+impl Service {
+    // The control fields of the centre, each with FCB 0; and the FCB.
+    pub const RESET: u8 = 0x40;
+
+    pub const USER_DATA: u8 = 0x53;
+
+    pub const STATUS: u8 = 0x49;
+
+    pub const COLLECTION: u8 = 0x5B;
+
+    pub const FCB: u8 = 0x20;
+}
+
+impl Control {
     pub const ACK: u8 = 0x00;
 
     pub const NACK: u8 = 0x01;
 
     pub const DATA: u8 = 0x08;
 
-    pub const NOTHING: u8 = 0x09;
+    pub const NOTHING_TO_GIVE: u8 = 0x09;
 
     pub const STATUS: u8 = 0x0B;
+}
+
+impl Fault {
+    // Document 01's number.
+    pub fn number(self) -> u8
+        ensures { λ r. ⌜ r ≡ faultNumber self ⌝ }
+    {
+        match self {
+            Fault::Empty => 1,
+            Fault::Long => 2,
+            Fault::Malformed => 3,
+            Fault::Spoiled => 4,
+        }
+    }
 }
 
 fn fixed_form(run: &[u8]) -> bool
@@ -92,10 +141,10 @@ fn fixed_form(run: &[u8]) -> bool
     if run.len() != Judged::FIXED {
         return false;
     }
-    if run[0] != 0x10 {
+    if run[0] != Judged::START_FIXED {
         return false;
     }
-    run[5] == 0x16
+    run[5] == Judged::END
 }
 
 fn variable_form(run: &[u8]) -> bool
@@ -105,19 +154,19 @@ fn variable_form(run: &[u8]) -> bool
     if n < Judged::FRAMING {
         return false;
     }
-    if n != run[1] as usize + 6 {
+    if n != run[1] as usize + Judged::UNCOUNTED {
         return false;
     }
-    if run[0] != 0x68 {
+    if run[0] != Judged::START_VARIABLE {
         return false;
     }
     if run[2] != run[1] {
         return false;
     }
-    if run[3] != 0x68 {
+    if run[3] != Judged::START_VARIABLE {
         return false;
     }
-    run[n - 1] == 0x16
+    run[n - 1] == Judged::END
 }
 
 fn sum_right(run: &[u8], start: usize) -> bool
@@ -128,36 +177,44 @@ fn sum_right(run: &[u8], start: usize) -> bool
     octets::checksum(&run[start..end]) == run[end]
 }
 
+// The address at a place, low octet first.
+fn link_at(run: &[u8], at: usize) -> LinkAddress
+    requires { ⌜ at + 2 ≤ length (now run) ⌝ }
+    ensures { λ r. ⌜ r .0 ≡ lowFirst (getD (now (run .entry)) at 0 ∷ getD (now (run .entry)) (at + 1) 0 ∷ []) ⌝ }
+{
+    LinkAddress(octets::low_first_2(run[at], run[at + 1]))
+}
+
 pub fn judge(run: &[u8]) -> Judged
     ensures { λ r. ⌜ judgedSays r ≡ verdictSays (judge sapr (now (run .entry))) ⌝ }
 {
     let n = run.len();
     if n == 0 {
-        return Judged::Empty;
+        return Judged::Faulty(Fault::Empty);
     }
     if Judged::LONGEST < n {
-        return Judged::Long;
+        return Judged::Faulty(Fault::Long);
     }
     if fixed_form(run) {
         if sum_right(run, 1) {
             return Judged::Fixed {
                 control: run[1],
-                link: LinkAddress(octets::low_first_2(run[2], run[3])),
+                link: link_at(run, 2),
             };
         }
-        return Judged::Spoiled;
+        return Judged::Faulty(Fault::Spoiled);
     }
     if variable_form(run) {
         if sum_right(run, 4) {
             return Judged::Variable {
                 control: run[4],
-                link: LinkAddress(octets::low_first_2(run[5], run[6])),
+                link: link_at(run, 5),
                 users: (n - Judged::FRAMING) as u8,
             };
         }
-        return Judged::Spoiled;
+        return Judged::Faulty(Fault::Spoiled);
     }
-    Judged::Malformed
+    Judged::Faulty(Fault::Malformed)
 }
 
 // The user octets of a variable frame, as a part of its run; of any run, so many of those behind the first seven, as far as there are any.
@@ -168,8 +225,8 @@ pub fn user(run: &[u8], users: u8) -> &[u8]
 }
 
 // What a control field asks for in a frame of a form.
-pub fn service_of(form: Form, control: u8) -> Service
-    ensures { λ r. ⌜ serviceSays r ≡ offered form control ⌝ }
+pub fn service_of(form: Form, control: u8) -> Asked
+    ensures { λ r. ⌜ r ≡ offered form control ⌝ }
 {
     match form {
         Form::Fixed => fixed_service(control),
@@ -177,59 +234,78 @@ pub fn service_of(form: Form, control: u8) -> Service
     }
 }
 
-// Bit 7 is set, bit 8 is not; with FCV 0 either FCB serves.
-fn fixed_service(control: u8) -> Service
-    ensures { λ r. ⌜ serviceSays r ≡ offered Form.Fixed control ⌝ }
+// With FCV 0 either FCB serves.
+fn fixed_service(control: u8) -> Asked
+    ensures { λ r. ⌜ r ≡ offered Form.Fixed control ⌝ }
 {
-    if control == 0x5B {
-        return Service::Collection(0);
+    if control == Service::COLLECTION {
+        return Asked::Is(Service::Collection(0));
     }
-    if control == 0x7B {
-        return Service::Collection(1);
+    if control == Service::COLLECTION + Service::FCB {
+        return Asked::Is(Service::Collection(1));
     }
-    if control == 0x40 {
-        return Service::Reset;
+    if control == Service::RESET {
+        return Asked::Is(Service::Reset);
     }
-    if control == 0x60 {
-        return Service::Reset;
+    if control == Service::RESET + Service::FCB {
+        return Asked::Is(Service::Reset);
     }
-    if control == 0x49 {
-        return Service::Status;
+    if control == Service::STATUS {
+        return Asked::Is(Service::Status);
     }
-    if control == 0x69 {
-        return Service::Status;
+    if control == Service::STATUS + Service::FCB {
+        return Asked::Is(Service::Status);
     }
-    Service::NotOffered
+    Asked::NotOffered
 }
 
-fn variable_service(control: u8) -> Service
-    ensures { λ r. ⌜ serviceSays r ≡ offered Form.Variable control ⌝ }
+fn variable_service(control: u8) -> Asked
+    ensures { λ r. ⌜ r ≡ offered Form.Variable control ⌝ }
 {
-    if control == 0x53 {
-        return Service::UserData(0);
+    if control == Service::USER_DATA {
+        return Asked::Is(Service::UserData(0));
     }
-    if control == 0x73 {
-        return Service::UserData(1);
+    if control == Service::USER_DATA + Service::FCB {
+        return Asked::Is(Service::UserData(1));
     }
-    Service::NotOffered
+    Asked::NotOffered
+}
+
+impl Reply {
+    // A reply without user octets.
+    pub fn plain(control: Control, link: LinkAddress) -> Reply
+        ensures { λ r. ⌜ r ≡ plain control link ⌝ }
+    {
+        Reply {
+            control,
+            link,
+            user: Kept::new(),
+        }
+    }
 }
 
 // Writes a reply into the first octets of the buffer.
-pub fn write(buffer: &mut [u8], reply: Reply, link: LinkAddress) -> Written
-    ensures { λ r. ⌜ Wrote (now (buffer .entry)) (replyOctets reply link) r (now (buffer .exit)) ⌝ }
+pub fn write(buffer: &mut [u8], reply: Reply) -> Written
+    ensures { λ r. ⌜ Does (answerTo (now (buffer .entry)) (replyOctets reply)) (leftOf (now (buffer .entry)) (replyOctets reply)) r (now (buffer .exit)) ⌝ }
 {
     if buffer.len() < Judged::LONGEST {
         return Written::Short;
     }
-    let kind = reply.kind;
-    match kind {
-        Kind::Ack => Written::Octets(write_fixed(buffer, Kind::ACK, link.0)),
-        Kind::Nack => Written::Octets(write_fixed(buffer, Kind::NACK, link.0)),
-        Kind::Nothing => Written::Octets(write_fixed(buffer, Kind::NOTHING, link.0)),
-        Kind::Status => Written::Octets(write_fixed(buffer, Kind::STATUS, link.0)),
-        Kind::Data => {
+    let control = reply.control;
+    let link = reply.link;
+    match control {
+        Control::Ack => Written::Octets(write_fixed(buffer, Control::ACK, link.0)),
+        Control::Nack => Written::Octets(write_fixed(buffer, Control::NACK, link.0)),
+        Control::NothingToGive => Written::Octets(write_fixed(
+            buffer,
+            Control::NOTHING_TO_GIVE,
+            link.0,
+        )),
+        Control::Status => Written::Octets(write_fixed(buffer, Control::STATUS, link.0)),
+        Control::Data => {
             let user = reply.user;
-            Written::Octets(write_variable(buffer, Kind::DATA, link.0, user, reply.users))
+            let octets = user.octets;
+            Written::Octets(write_variable(buffer, Control::DATA, link.0, octets, user.length))
         }
     }
 }
@@ -241,8 +317,12 @@ fn write_fixed(buffer: &mut [u8], control: u8, address: u16) -> u16
 {
     let a = octets::low_octets_2(address);
     let sum = octets::checksum(&[control, a[0], a[1]]);
-    octets::put(buffer, 0, &[0x10, control, a[0], a[1], sum, 0x16]);
-    6
+    octets::put(
+        buffer,
+        0,
+        &[Judged::START_FIXED, control, a[0], a[1], sum, Judged::END],
+    );
+    Judged::FIXED as u16
 }
 
 fn write_variable(buffer: &mut [u8], control: u8, address: u16, user: [u8; 252], users: u8) -> u16
@@ -259,14 +339,30 @@ fn write_variable(buffer: &mut [u8], control: u8, address: u16, user: [u8; 252],
         octets::checksum(&[control, a[0], a[1]]),
         octets::checksum(&user[..end]),
     );
-    octets::put(buffer, 0, &[0x68, l, l, 0x68, control, a[0], a[1]]);
+    octets::put(
+        buffer,
+        0,
+        &[
+            Judged::START_VARIABLE,
+            l,
+            l,
+            Judged::START_VARIABLE,
+            control,
+            a[0],
+            a[1],
+        ],
+    );
     octets::put(buffer, 7, &user[..end]);
-    octets::put(buffer, end + 7, &[sum, 0x16]);
-    n as u16 + 9
+    octets::put(buffer, end + 7, &[sum, Judged::END]);
+    n as u16 + Judged::FRAMING as u16
 }
 
 fn at_most(users: u8) -> u8
     ensures { λ r. ⌜ r ≡ min users 252 ⌝ }
 {
-    if users <= 252 { users } else { 252 }
+    if users as usize <= Kept::ROOM {
+        users
+    } else {
+        Kept::ROOM as u8
+    }
 }

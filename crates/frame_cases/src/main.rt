@@ -1,11 +1,13 @@
 // Prints a line for each case of a run, of the control field and of writing: the number of document 01 and the values.
 use address::LinkAddress;
+use frame::Asked;
+use frame::Control;
 use frame::Form;
 use frame::Judged;
-use frame::Kind;
 use frame::Reply;
 use frame::Service;
 use frame::Written;
+use octets::Kept;
 
 fn text(s: &[u8]) {
     io::write_all(1, s);
@@ -31,10 +33,7 @@ fn octets_of(s: &[u8]) {
 
 fn judged(run: &[u8]) {
     match frame::judge(run) {
-        Judged::Empty => text(b" 1"),
-        Judged::Long => text(b" 2"),
-        Judged::Malformed => text(b" 3"),
-        Judged::Spoiled => text(b" 4"),
+        Judged::Faulty(fault) => number(fault.number() as u64),
         Judged::Fixed { control, link } => {
             text(b" 0 fixed");
             hex(control);
@@ -63,19 +62,22 @@ fn run(name: &[u8], octets: &[u8]) {
     text(b"\n");
 }
 
-// A reply of as many user octets as is asked for, each of them 1.
-fn ones(kind: Kind, users: u8) -> Reply {
+// A reply with link address 258 and as many user octets as is asked for, each of them 1.
+fn ones(control: Control, users: u8) -> Reply {
     Reply {
-        kind,
-        user: [1; 252],
-        users,
+        control,
+        link: LinkAddress(258),
+        user: Kept {
+            octets: [1; 252],
+            length: users,
+        },
     }
 }
 
-// Writes a reply with link address 258 into so many octets of a buffer.
+// Writes a reply into so many octets of a buffer.
 fn lend(buffer: &mut [u8], room: usize, reply: Reply) -> Written {
     if room <= buffer.len() {
-        return frame::write(&mut buffer[..room], reply, LinkAddress(258));
+        return frame::write(&mut buffer[..room], reply);
     }
     Written::Short
 }
@@ -182,28 +184,27 @@ fn variable_runs() {
 // L 255, and one octet more.
 fn long_runs() {
     let mut space = [1u8; 300];
-    frame::write(&mut space, ones(Kind::Data, 252), LinkAddress(258));
+    frame::write(&mut space, ones(Control::Data, 252));
     run(b"261 octets, L 255", octets::part(&space, 0, 261));
     run(b"262 octets", octets::part(&space, 0, 262));
     run(b"260 octets of it", octets::part(&space, 0, 260));
 }
 
 fn writing() {
-    written(b"ACK", ones(Kind::Ack, 3), 261);
-    written(b"NACK", ones(Kind::Nack, 0), 300);
-    written(b"nothing to give", ones(Kind::Nothing, 0), 300);
-    written(b"status", ones(Kind::Status, 0), 300);
-    written(b"data, none", ones(Kind::Data, 0), 300);
-    written(b"data, 3", ones(Kind::Data, 3), 300);
-    written(b"data, 252", ones(Kind::Data, 252), 300);
-    written(b"data, 255", ones(Kind::Data, 255), 300);
-    written(b"260 octets lent", ones(Kind::Ack, 0), 260);
-    written(b"none lent", ones(Kind::Data, 0), 0);
+    written(b"ACK", ones(Control::Ack, 3), 261);
+    written(b"NACK", ones(Control::Nack, 0), 300);
+    written(b"nothing to give", ones(Control::NothingToGive, 0), 300);
+    written(b"status", ones(Control::Status, 0), 300);
+    written(b"data, none", ones(Control::Data, 0), 300);
+    written(b"data, 3", ones(Control::Data, 3), 300);
+    written(b"data, 252", ones(Control::Data, 252), 300);
+    written(b"data, 255", ones(Control::Data, 255), 300);
+    written(b"260 octets lent", ones(Control::Ack, 0), 260);
+    written(b"none lent", ones(Control::Data, 0), 0);
 }
 
-fn service(form: Form, control: u8) {
-    match frame::service_of(form, control) {
-        Service::NotOffered => {}
+fn offered(control: u8, service: Service) {
+    match service {
         Service::Reset => {
             hex(control);
             text(b" reset\n");
@@ -224,6 +225,13 @@ fn service(form: Form, control: u8) {
             number(bit as u64);
             text(b"\n");
         }
+    }
+}
+
+fn service(form: Form, control: u8) {
+    match frame::service_of(form, control) {
+        Asked::Is(service) => offered(control, service),
+        Asked::NotOffered => {}
     }
 }
 

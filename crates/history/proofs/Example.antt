@@ -6,7 +6,7 @@ use mathlib.Core.Bool.{Bool, true, false}
 use mathlib.Core.List.{List, [], _∷_, reverse, reverseAux, cons≢nil}
 use mathlib.Core.Path.{_≡_, refl, sym, ap, _∙_}
 use native.Mathlib.Omega.{arith}
-use Rattle.history.specs.History.{Event, Symbol, Gap, Call, Outcome, Machine, answers, after, fed, closedRun, AllFit}
+use Rattle.history.specs.History.{Event, Symbol, Gap, Call, Stepped, Machine, answers, after, fed, closedRun, AllFit}
 use Rattle.history.specs.Invariant.{Invariant}
 use Rattle.history.specs.Sides.{Related}
 use Rattle.history.specs.Noise.{Noised, Deaf, Unnoticed}
@@ -36,11 +36,11 @@ isFrame (true ∷ a ∷ run) = false
 isFrame (false ∷ run) = false
 
 -- a frame is answered by its number, and anything else is damaged
-abbrev heardAs : Bool → Ear → Outcome Ear Said
+abbrev heardAs : Bool → Ear → Stepped Ear Said
 heardAs true s = record { state = record { run = []; heard = suc (s .heard); damaged = s .damaged }; answer = number (suc (s .heard)) }
 heardAs false s = record { state = record { run = []; heard = s .heard; damaged = suc (s .damaged) }; answer = nothing }
 
-abbrev gapOf : Ear → Bool → Outcome Ear Said
+abbrev gapOf : Ear → Bool → Stepped Ear Said
 gapOf s true = heardAs (isFrame (s .run)) s
 gapOf s false = record { state = s; answer = nothing }
 

@@ -8,14 +8,14 @@ pub data Event (A G E : Type 0) : Type 0 where
   Call : E → Event A G E
 
 -- what a gap or another call leaves and answers
-pub record Outcome (S O : Type 0) : Type 0 where
+pub record Stepped (S O : Type 0) : Type 0 where
   pub state : S
   pub answer : O
 
 pub record Machine (S A G E O : Type 0) : Type 0 where
   pub symbol : S → A → S
-  pub gap : S → G → Outcome S O
-  pub call : S → E → Outcome S O
+  pub gap : S → G → Stepped S O
+  pub call : S → E → Stepped S O
 
 module _ {S A G E O : Type 0} (m : Machine S A G E O) where
   -- the answers to a history's gaps and other calls, in order

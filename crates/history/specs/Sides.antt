@@ -1,7 +1,7 @@
 -- Two histories side by side, related event by event, and two machines that keep step on them.
 -- Assumes nothing.
 use mathlib.Core.List.{List, [], _∷_}
-use Rattle.history.specs.History.{Event, Symbol, Gap, Call, Outcome, Machine}
+use Rattle.history.specs.History.{Event, Symbol, Gap, Call, Stepped, Machine}
 
 -- each symbol, loan and call of one history is related to the one in its place in the other
 pub data Alongside {A A′ G G′ E E′ : Type 0} (Symbols : A → A′ → Type 0) (Loans : G → G′ → Type 0) (Calls : E → E′ → Type 0)
@@ -15,7 +15,7 @@ pub data Alongside {A A′ G G′ E E′ : Type 0} (Symbols : A → A′ → Typ
       → Calls e e′ → Alongside Symbols Loans Calls h h′ → Alongside Symbols Loans Calls (Call e ∷ h) (Call e′ ∷ h′)
 
 -- two outcomes with related states and related answers
-pub record Related {S S′ O O′ : Type 0} (States : S → S′ → Type 0) (Answers : O → O′ → Type 0) (x : Outcome S O) (y : Outcome S′ O′) : Type 0 where
+pub record Related {S S′ O O′ : Type 0} (States : S → S′ → Type 0) (Answers : O → O′ → Type 0) (x : Stepped S O) (y : Stepped S′ O′) : Type 0 where
   pub states : States (x .state) (y .state)
   pub answers : Answers (x .answer) (y .answer)
 

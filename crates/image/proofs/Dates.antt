@@ -15,8 +15,8 @@ use Rattle.records.specs.Said.{every, linked, keep}
 use Rattle.records.proofs.Records.{kind-none, kind-whole, kind-there, after-whole}
 use Rattle.records.proofs.Said.{keep-none}
 use Rattle.records.proofs.Places.{Lie, lie, none, one}
-use Rattle.parts.specs.Parts.{isKind}
-use Rattle.parts.specs.Answers.{recordsOf, leading, pointsFrom, pointsOf, datesPlace}
+use Rattle.fields.specs.Parts.{isKind}
+use Rattle.fields.specs.Answers.{recordsOf, leading, pointsFrom, pointsOf, datesPlace}
 use Rattle.image.specs.Image.{inOrder, soundImage}
 use Rattle.image.proofs.Order.{linked-tail}
 use Rattle.image.proofs.Known.{from-kind, dates-alone, later-kinds, head-kind, head-first}

@@ -18,13 +18,13 @@ use Rattle.records.specs.Records.{kindOf, isWhole, wholeAt, recordAt, recordsFr
 use Rattle.records.specs.Said.{every, linked}
 use Rattle.records.proofs.Records.{whole-facts, some-kind, from-end, from-more, after-whole, kind-whole, kind-there}
 use Rattle.records.proofs.Places.{lie, each-whole}
-use Rattle.parts.specs.declared.Key.{Key}
-use Rattle.parts.specs.Parts.{pointOf, readingLabel}
-use Rattle.parts.specs.Key.{atMinute, noLabel, key, keyOf}
-use Rattle.parts.specs.Answers.{recordsOf, pointsOf, datesAt}
-use Rattle.parts.proofs.Parts.{key-kind, key-2, key-4, key-5}
+use Rattle.fields.specs.declared.Key.{Key}
+use Rattle.fields.specs.Parts.{pointOf, readingLabel}
+use Rattle.fields.specs.working.Key.{atMinute, noLabel, key, keyOf}
+use Rattle.fields.specs.Answers.{recordsOf, pointsOf, datesAt}
+use Rattle.fields.proofs.Parts.{key-kind, key-2, key-4, key-5}
 use Rattle.image.specs.Image.{readingRecord, eventRecord, right, byPoint, readingBefore, eventBefore, inOrder}
-use Rattle.image.specs.Keys.{validDates, byKey, keyBefore, keysInOrder, knownIn, orderly, fits, chain, left}
+use Rattle.image.specs.working.Keys.{validDates, byKey, keyBefore, keysInOrder, knownIn, orderly, fits, chain, left}
 
 -- a record by itself, by its key
 module _ (r : List ℕ) (k : Key) (e : k ≡ keyOf r) where
@@ -35,11 +35,11 @@ module _ (r : List ℕ) (k : Key) (e : k ≡ keyOf r) where
   unfolding right
   right-2 h = let n : kindOf r ≡ 2 = sym same-kind ∙ h in rw (e, key-2 r n, n)
 
-  pub right-4 : k .kind ≡ 4 → (readingRecord (k .record) && validA (k .label .a)) ≡ right r
+  pub right-4 : k .kind ≡ 4 → (readingRecord (k .record_address) && validA (k .label .a)) ≡ right r
   unfolding right
   right-4 h = let n : kindOf r ≡ 4 = sym same-kind ∙ h in rw (e, key-4 r n, n)
 
-  pub right-5 : k .kind ≡ 5 → (eventRecord (k .record) && validB (k .label)) ≡ right r
+  pub right-5 : k .kind ≡ 5 → (eventRecord (k .record_address) && validB (k .label)) ≡ right r
   unfolding right
   right-5 h = let n : kindOf r ≡ 5 = sym same-kind ∙ h in rw (e, key-5 r n, n)
 

@@ -15,14 +15,14 @@ use Rattle.records.specs.Records.{kindOf, wholeAt, recordAt, recordsFrom, kindA
 use Rattle.records.specs.Said.{every, linked, keep, howMany}
 use Rattle.records.proofs.Records.{Whole, whole-facts, whole-itself, some-kind, last-kind, from-end, from-more, OfKind, kind-facts, not-kind}
 use Rattle.records.proofs.Said.{every-so, every-same, keep-none}
-use Rattle.parts.specs.declared.Key.{Key}
-use Rattle.parts.specs.declared.PointFound.{PointFound}
-use Rattle.parts.specs.Parts.{pointOf, isKind, isPoint}
-use Rattle.parts.specs.Key.{keyOf}
-use Rattle.parts.specs.Answers.{recordsOf, leading, pointsFrom, pointsOf, pointIn, pointFound}
-use Rattle.parts.proofs.Parts.{key-kind, key-4, key-5}
+use Rattle.fields.specs.declared.Key.{Key}
+use Rattle.fields.specs.declared.PointFound.{PointFound}
+use Rattle.fields.specs.Parts.{pointOf, isKind, isPoint}
+use Rattle.fields.specs.working.Key.{keyOf}
+use Rattle.fields.specs.Answers.{recordsOf, leading, pointsFrom, pointsOf, pointIn, pointFound}
+use Rattle.fields.proofs.Parts.{key-kind, key-4, key-5}
 use Rattle.image.specs.Image.{inOrder, knows}
-use Rattle.image.specs.Keys.{isFound, knownIn, keyKnown}
+use Rattle.image.specs.working.Keys.{isFound, knownIn, keyKnown}
 use Rattle.image.proofs.Order.{order-kinds, order-once, linked-tail, before-rest}
 
 -- a reading or an event has its point in its key

@@ -1,7 +1,7 @@
 pub mod Keys
 pub mod Order
 pub mod Known
-pub mod Run
+pub mod Runs
 pub mod Soundness
 pub mod Dates
 mod Determined

@@ -19,7 +19,7 @@ use Rattle.label.proofs.Label.{instant-pos}
 use Rattle.records.specs.Records.{kindOf}
 use Rattle.records.specs.Said.{every, linked}
 use Rattle.records.proofs.Said.{every-at}
-use Rattle.parts.specs.Parts.{pointOf, recordOf, readingLabel, eventLabel}
+use Rattle.fields.specs.Parts.{pointOf, recordAddress, readingLabel, eventLabel}
 use Rattle.image.specs.Image.{byPoint, readingBefore, eventBefore, inOrder}
 
 -- one part of a comparison: where the numbers differ they decide, and else the rest does
@@ -113,26 +113,26 @@ module _ (r q p : List ℕ) where
   unfolding readingBefore byPoint
   readings-trans =
       part-trans (pointOf r) (pointOf q) (pointOf p) _ _ _ (λ e f.
-      part-trans (recordOf r) (recordOf q) (recordOf p) _ _ _ (λ g h.
+      part-trans (recordAddress r) (recordAddress q) (recordAddress p) _ _ _ (λ g h.
       rw (before-a (readingLabel r) (readingLabel q), before-a (readingLabel q) (readingLabel p), before-a (readingLabel r) (readingLabel p))
       (less-trans (minuteOf (readingLabel r)) (minuteOf (readingLabel q)) (minuteOf (readingLabel p)))))
 
 -- not before, the other way round: by parts again
 not-event : (r q : List ℕ) → not (eventBefore q r)
-    ≡ part (pointOf r) (pointOf q) (part (recordOf r) (recordOf q)
+    ≡ part (pointOf r) (pointOf q) (part (recordAddress r) (recordAddress q)
     (part (minuteOf (eventLabel r .a)) (minuteOf (eventLabel q .a)) (not (ltb (inMinute (eventLabel q)) (inMinute (eventLabel r))))))
 unfolding eventBefore byPoint
 not-event r q =
     rw (before-b (eventLabel q) (eventLabel r))
     (part-not (pointOf r) (pointOf q) _
-    ∙ ap (part (pointOf r) (pointOf q)) (part-not (recordOf r) (recordOf q) _
-    ∙ ap (part (recordOf r) (recordOf q)) (part-not (minuteOf (eventLabel r .a)) (minuteOf (eventLabel q .a)) _)))
+    ∙ ap (part (pointOf r) (pointOf q)) (part-not (recordAddress r) (recordAddress q) _
+    ∙ ap (part (recordAddress r) (recordAddress q)) (part-not (minuteOf (eventLabel r .a)) (minuteOf (eventLabel q .a)) _)))
 
 events-trans : (r q p : List ℕ) → not (eventBefore q r) ≡ true → not (eventBefore p q) ≡ true → not (eventBefore p r) ≡ true
 events-trans r q p =
     rw (not-event r q, not-event q p, not-event r p)
     (part-trans (pointOf r) (pointOf q) (pointOf p) _ _ _ (λ e f.
-    part-trans (recordOf r) (recordOf q) (recordOf p) _ _ _ (λ g h.
+    part-trans (recordAddress r) (recordAddress q) (recordAddress p) _ _ _ (λ g h.
     part-trans (minuteOf (eventLabel r .a)) (minuteOf (eventLabel q .a)) (minuteOf (eventLabel p .a)) _ _ _ (λ i j.
     no-less-trans (inMinute (eventLabel r)) (inMinute (eventLabel q)) (inMinute (eventLabel p))))))
 
@@ -215,7 +215,7 @@ any-two (r ∷ rs) e (suc i) (suc j) h k = any-two rs (linked-tail inOrder r rs 
 same-part : (x y : ℕ) (rest : Bool) → x ≡ y → part x y rest ≡ true → rest ≡ true
 same-part x y rest e p = rw (eq-eqb x y e) at p
 
-module _ (r q : List ℕ) (points : pointOf r ≡ pointOf q) (addresses : recordOf r ≡ recordOf q) (o : inOrder r q ≡ true) where
+module _ (r q : List ℕ) (points : pointOf r ≡ pointOf q) (addresses : recordAddress r ≡ recordAddress q) (o : inOrder r q ≡ true) where
   same-kind-order : kindOf r ≡ kindOf q → sameKind (kindOf r) r q ≡ true
   same-kind-order e = same-part (kindOf r) (kindOf q) _ e (rw (in-order-parts r q) at o)
 
@@ -223,7 +223,7 @@ module _ (r q : List ℕ) (points : pointOf r ≡ pointOf q) (addresses : record
   unfolding sameKind readingBefore byPoint
   readings-rise k l =
       let before : readingBefore r q ≡ true = rw k at (same-kind-order (k ∙ sym l)) in
-      let labels : beforeA (readingLabel r) (readingLabel q) ≡ true = same-part (recordOf r) (recordOf q) _ addresses (same-part (pointOf r) (pointOf q) _ points before) in
+      let labels : beforeA (readingLabel r) (readingLabel q) ≡ true = same-part (recordAddress r) (recordAddress q) _ addresses (same-part (pointOf r) (pointOf q) _ points before) in
       let less : minuteOf (readingLabel r) < minuteOf (readingLabel q) = ltb-true _ _ (sym (before-a (readingLabel r) (readingLabel q)) ∙ labels) in
       at-most-a (readingLabel r) (readingLabel q) (omega arith)
 
@@ -234,7 +234,7 @@ module _ (r q : List ℕ) (points : pointOf r ≡ pointOf q) (addresses : record
       let y = minuteOf (eventLabel q .a) in
       let parts = sym (not-event r q) ∙ (rw k at (same-kind-order (k ∙ sym l))) in
       let labels : part x y (not (ltb (inMinute (eventLabel q)) (inMinute (eventLabel r)))) ≡ true =
-      same-part (recordOf r) (recordOf q) _ addresses (same-part (pointOf r) (pointOf q) _ points parts) in
+      same-part (recordAddress r) (recordAddress q) _ addresses (same-part (pointOf r) (pointOf q) _ points parts) in
       at-most-a (eventLabel r .a) (eventLabel q .a) (at-most (part-true x y _ labels))
     where
       at-most : {x y : ℕ} {rest : Bool} → Part x y rest → x ≤ y

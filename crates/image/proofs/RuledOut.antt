@@ -14,11 +14,11 @@ use Rattle.octets.proofs.Choice.{not-both}
 use Rattle.octets.proofs.Outcome.{RuledOut, Place, lent}
 use Rattle.label.specs.Calendar.{leap, leapDay, monthLength, daysOfMonths, daysToYear, dayNumber}
 use Rattle.label.specs.Time.{real, minutes}
-use Rattle.label.specs.Label.{dateTimeA, validA, instant, beforeA, millisecond, second, validB, inMinute, beforeB}
+use Rattle.label.specs.Label.{dateTimeA, validA, instant, beforeA, millisecond, second, validB, inMinute, beforeB, labelAAt, labelBAt}
 use Rattle.records.specs.Records.{lengthOf, kindOf, isWhole, walk, records, recordsFrom}
 use Rattle.records.specs.Said.{every, linked, keep, howMany}
-use Rattle.parts.specs.Parts.{numberAt, labelAAt, labelBAt, pointOf, recordOf, readingLabel, eventLabel, isKind}
-use Rattle.parts.specs.Answers.{recordsOf}
+use Rattle.fields.specs.Parts.{numberAt, pointOf, recordAddress, readingLabel, eventLabel, isKind}
+use Rattle.fields.specs.Answers.{recordsOf}
 use Rattle.image.specs.Image.{readingRecord, eventRecord, right, byPoint, readingBefore, eventBefore, inOrder, knows, soundImage}
 use Rattle.image.proofs.Soundness.{rules, right-point, right-reading, right-event, sound-facts}
 use Rattle.image.proofs.sound.Reads as sound
@@ -30,7 +30,7 @@ unfolding soundImage holds flatten recordsOf recordsFrom records walk isWhole le
 the-image = tt
 
 the-labels : Unit {0}
-unfolding recordOf readingRecord eventRecord byPoint readingBefore eventBefore readingLabel eventLabel labelAAt labelBAt validB second millisecond inMinute beforeB beforeA instant minutes dayNumber daysToYear daysOfMonths validA dateTimeA real leap leapDay monthLength
+unfolding recordAddress readingRecord eventRecord byPoint readingBefore eventBefore readingLabel eventLabel labelAAt labelBAt validB second millisecond inMinute beforeB beforeA instant minutes dayNumber daysToYear daysOfMonths validA dateTimeA real leap leapDay monthLength
 the-labels = tt
 
 -- version 1 and the first record, with link address 1
@@ -85,7 +85,7 @@ module _ (κs : Lfts 1) (x : Place) (image : List ℕ) where
     sound-address-0 kind zero s p = omega (arith, right-point (nth image n) (sound-facts image (sym p) .each-is-right n there) kind)
 
     -- an image is sound that has a reading of another record address than 11 and 21
-    sound-reading-record : kindOf (nth image n) ≡ 4 → readingRecord (recordOf (nth image n)) ≡ false
+    sound-reading-record : kindOf (nth image n) ≡ 4 → readingRecord (recordAddress (nth image n)) ≡ false
         → RuledOut (sound.Post κs) (lent x image, tt) true
     sound-reading-record kind out s p = not-both out (right-reading (nth image n) (sound-facts image (sym p) .each-is-right n there) kind .0)
 
@@ -94,7 +94,7 @@ module _ (κs : Lfts 1) (x : Place) (image : List ℕ) where
     sound-reading-label kind out s p = not-both out (right-reading (nth image n) (sound-facts image (sym p) .each-is-right n there) kind .1)
 
     -- an image is sound that has an event of a record address that is not in the list of 102
-    sound-event-record : kindOf (nth image n) ≡ 5 → eventRecord (recordOf (nth image n)) ≡ false → RuledOut (sound.Post κs) (lent x image, tt) true
+    sound-event-record : kindOf (nth image n) ≡ 5 → eventRecord (recordAddress (nth image n)) ≡ false → RuledOut (sound.Post κs) (lent x image, tt) true
     sound-event-record kind out s p = not-both out (right-event (nth image n) (sound-facts image (sym p) .each-is-right n there) kind .0)
 
     -- an image is sound that has a reading or an event of a point that is not in it

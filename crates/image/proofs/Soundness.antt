@@ -15,10 +15,10 @@ use Rattle.label.specs.Label.{validA, validB}
 use Rattle.records.specs.Records.{kindOf, recordAt, kindAt}
 use Rattle.records.specs.Said.{every, linked, keep, howMany}
 use Rattle.records.proofs.Said.{every-at}
-use Rattle.parts.specs.Parts.{pointOf, recordOf, firstDate, secondDate, readingLabel, eventLabel, isKind}
-use Rattle.parts.specs.Answers.{recordsOf, pointsOf}
+use Rattle.fields.specs.Parts.{pointOf, recordAddress, firstDate, secondDate, readingLabel, eventLabel, isKind}
+use Rattle.fields.specs.Answers.{recordsOf, pointsOf}
 use Rattle.image.specs.Image.{readingRecord, eventRecord, right, inOrder, knows, soundImage}
-use Rattle.image.specs.Keys.{orderly, knownIn}
+use Rattle.image.specs.working.Keys.{orderly, knownIn}
 use Rattle.image.proofs.Order.{any-two}
 use Rattle.image.proofs.Known.{head-missing, all-points, dates-at-most-once, all-known-found, head-only}
 
@@ -128,17 +128,17 @@ module _ (r : List ℕ) (e : right r ≡ true) where
       let both : (validA (firstDate r) && validA (secondDate r)) ≡ true = rw k at e in
       (and-left (validA (firstDate r)) (validA (secondDate r)) both, and-right (validA (firstDate r)) (validA (secondDate r)) both)
 
-  pub right-reading : kindOf r ≡ 4 → (readingRecord (recordOf r) ≡ true) × (validA (readingLabel r) ≡ true)
+  pub right-reading : kindOf r ≡ 4 → (readingRecord (recordAddress r) ≡ true) × (validA (readingLabel r) ≡ true)
   unfolding right
   right-reading k =
-      let both : (readingRecord (recordOf r) && validA (readingLabel r)) ≡ true = rw k at e in
-      (and-left (readingRecord (recordOf r)) (validA (readingLabel r)) both, and-right (readingRecord (recordOf r)) (validA (readingLabel r)) both)
+      let both : (readingRecord (recordAddress r) && validA (readingLabel r)) ≡ true = rw k at e in
+      (and-left (readingRecord (recordAddress r)) (validA (readingLabel r)) both, and-right (readingRecord (recordAddress r)) (validA (readingLabel r)) both)
 
-  pub right-event : kindOf r ≡ 5 → (eventRecord (recordOf r) ≡ true) × (validB (eventLabel r) ≡ true)
+  pub right-event : kindOf r ≡ 5 → (eventRecord (recordAddress r) ≡ true) × (validB (eventLabel r) ≡ true)
   unfolding right
   right-event k =
-      let both : (eventRecord (recordOf r) && validB (eventLabel r)) ≡ true = rw k at e in
-      (and-left (eventRecord (recordOf r)) (validB (eventLabel r)) both, and-right (eventRecord (recordOf r)) (validB (eventLabel r)) both)
+      let both : (eventRecord (recordAddress r) && validB (eventLabel r)) ≡ true = rw k at e in
+      (and-left (eventRecord (recordAddress r)) (validB (eventLabel r)) both, and-right (eventRecord (recordAddress r)) (validB (eventLabel r)) both)
 
 -- what callers use of a sound image
 pub record Sound (image : List ℕ) : Type 0 where

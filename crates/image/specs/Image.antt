@@ -10,8 +10,8 @@ use Rattle.octets.specs.Conditions.{holds}
 use Rattle.label.specs.Label.{validA, beforeA, validB, beforeB}
 use Rattle.records.specs.Records.{kindOf}
 use Rattle.records.specs.Said.{every, linked, howMany}
-use Rattle.parts.specs.Parts.{pointOf, firstDate, secondDate, recordOf, readingLabel, eventLabel, isKind, isPoint}
-use Rattle.parts.specs.Answers.{recordsOf}
+use Rattle.fields.specs.Parts.{pointOf, firstDate, secondDate, recordAddress, readingLabel, eventLabel, isKind, isPoint}
+use Rattle.fields.specs.Answers.{recordsOf}
 
 -- a reading has record 11 or 21, an event a record of 102's list: 52 to 55, 128, 129
 unfoldable pub readingRecord : ℕ → Bool
@@ -25,15 +25,15 @@ unfoldable pub right : List ℕ → Bool
 right r =
     if eqb (kindOf r) 2 then leb 1 (pointOf r) else
     if eqb (kindOf r) 3 then validA (firstDate r) && validA (secondDate r) else
-    if eqb (kindOf r) 4 then readingRecord (recordOf r) && validA (readingLabel r) else
-    if eqb (kindOf r) 5 then eventRecord (recordOf r) && validB (eventLabel r) else
+    if eqb (kindOf r) 4 then readingRecord (recordAddress r) && validA (readingLabel r) else
+    if eqb (kindOf r) 5 then eventRecord (recordAddress r) && validB (eventLabel r) else
     true
 
 -- by point and record address, and where these are the same by what follows
 unfoldable pub byPoint : List ℕ → List ℕ → Bool → Bool
 byPoint r q labels =
     if not (eqb (pointOf r) (pointOf q)) then ltb (pointOf r) (pointOf q) else
-    if not (eqb (recordOf r) (recordOf q)) then ltb (recordOf r) (recordOf q) else
+    if not (eqb (recordAddress r) (recordAddress q)) then ltb (recordAddress r) (recordAddress q) else
     labels
 
 unfoldable pub readingBefore : List ℕ → List ℕ → Bool

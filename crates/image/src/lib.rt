@@ -1,21 +1,21 @@
 // Whether an image is sound. The records are walked once, with constant work a record. Readings and events stand in long runs of one
-// kind; each of the two has a loop of its own, which keeps the instant of the last record, so that each label is judged once, and
-// looks a point up among the first records only where it differs from the last record's.
+// kind; a walk over a run keeps the instant of the last record, so that each label is judged once, and looks a point up among the
+// first records only where it differs from the last record's.
 ghost use mathlib.Core.Path.{_≡_};
 ghost use mathlib.Core.Bool.{true, not, _&&_};
-ghost use Rattle.label.specs.Label.{instant, beforeB, momentA, momentB};
+ghost use Rattle.label.specs.Label.{validA, validB, instant, beforeB, momentOf};
 ghost use Rattle.records.specs.Records.{wholeAt, recordAt};
-ghost use Rattle.parts.specs.Key.{key, noLabel, keyOf};
-ghost use Rattle.parts.specs.Answers.{pointsOf};
+ghost use Rattle.fields.specs.working.Key.{key, noLabel, keyOf};
+ghost use Rattle.fields.specs.Answers.{pointsOf};
 ghost use Rattle.image.specs.Image.{readingRecord, eventRecord, right, soundImage};
-ghost use Rattle.image.specs.Keys.{validDates, byKey, keyBefore, keysInOrder, orderly, fits, keyKnown, keyFits, Judged, Behind, Onward};
+ghost use Rattle.image.specs.working.Keys.{validDates, byKey, keyBefore, keysInOrder, orderly, fits, keyKnown, keyFits, Passed, Behind, halted, advanced, Going, Onward, Next};
 use address::PointAddress;
+use fields::DatesFound;
+use fields::Key;
+use fields::PointFound;
 use label::LabelA;
 use label::LabelB;
 use label::Moment;
-use parts::DatesFound;
-use parts::Key;
-use parts::PointFound;
 
 // Record addresses of readings: periods and totals.
 fn is_reading_record(address: u8) -> bool
@@ -67,16 +67,16 @@ fn is_right(image: &[u8], at: usize, key: Key) -> bool
         return 1 <= key.point.0;
     }
     if kind == 3 {
-        return are_valid(parts::dates_at(image, at));
+        return are_valid(fields::dates_at(image, at));
     }
     if kind == 4 {
-        if is_reading_record(key.record) {
+        if is_reading_record(key.record_address) {
             return key.label.a.is_valid();
         }
         return false;
     }
     if kind == 5 {
-        if is_event_record(key.record) {
+        if is_event_record(key.record_address) {
             return key.label.is_valid();
         }
         return false;
@@ -91,8 +91,8 @@ fn is_before(mine: Key, other: Key) -> bool
     if mine.point.0 != other.point.0 {
         return mine.point.0 < other.point.0;
     }
-    if mine.record != other.record {
-        return mine.record < other.record;
+    if mine.record_address != other.record_address {
+        return mine.record_address < other.record_address;
     }
     mine.label.is_before(other.label)
 }
@@ -128,7 +128,7 @@ fn before_all() -> Key
     Key {
         kind: 0,
         point: PointAddress(0),
-        record: 0,
+        record_address: 0,
         label: LabelB {
             low: 0,
             high: 0,
@@ -150,7 +150,7 @@ fn is_known(image: &[u8], key: Key) -> bool
     if key.kind < 4 {
         return true;
     }
-    match parts::point_of(image, key.point) {
+    match fields::point_of(image, key.point) {
         PointFound::Is(_) => true,
         PointFound::Nothing => false,
     }
@@ -182,8 +182,8 @@ fn goes_on(image: &[u8], last: Key, key: Key, later: bool) -> bool
         }
         return false;
     }
-    if last.record != key.record {
-        return last.record < key.record;
+    if last.record_address != key.record_address {
+        return last.record_address < key.record_address;
     }
     later
 }
@@ -204,11 +204,11 @@ fn is_late(last: LabelB, minute: i64, label: LabelB, now: i64) -> bool
 
 // A reading behind the last one, whose instant is known; readings rise strictly.
 fn reading_fits(image: &[u8], last: Key, minute: i64, key: Key, moment: Moment) -> bool
-    requires { ⌜ Behind 4 (now image) last minute key × (moment ≡ momentA (key .label .a)) ⌝ }
+    requires { ⌜ Behind 4 (now image) last minute key × (moment ≡ momentOf (validA (key .label .a)) (key .label .a)) ⌝ }
     ensures { λ r. ⌜ r ≡ keyFits (pointsOf (now (image .entry))) last key ⌝ }
 {
     if moment.valid {
-        if is_reading_record(key.record) {
+        if is_reading_record(key.record_address) {
             return goes_on(image, last, key, minute < moment.minute);
         }
         return false;
@@ -218,11 +218,11 @@ fn reading_fits(image: &[u8], last: Key, minute: i64, key: Key, moment: Moment) 
 
 // An event behind the last one, whose instant is known; events may be equal.
 fn event_fits(image: &[u8], last: Key, minute: i64, key: Key, moment: Moment) -> bool
-    requires { ⌜ Behind 5 (now image) last minute key × (moment ≡ momentB (key .label)) ⌝ }
+    requires { ⌜ Behind 5 (now image) last minute key × (moment ≡ momentOf (validB (key .label)) (key .label .a)) ⌝ }
     ensures { λ r. ⌜ r ≡ keyFits (pointsOf (now (image .entry))) last key ⌝ }
 {
     if moment.valid {
-        if is_event_record(key.record) {
+        if is_event_record(key.record_address) {
             return goes_on(
                 image,
                 last,
@@ -235,91 +235,99 @@ fn event_fits(image: &[u8], last: Key, minute: i64, key: Key, moment: Moment) ->
     false
 }
 
-// How far a walk came: whether all that it passed fits, the place behind it and the last key.
-struct Walked {
+// Where a walk over a run stands: whether it goes on, whether all that it passed fits, the place behind that, the last key and its
+// instant.
+struct Run {
+    going: bool,
     fine: bool,
     at: usize,
     last: Key,
+    minute: i64,
 }
 
-// The readings behind a reading.
-fn readings(image: &[u8], from: usize, first: Key) -> Walked
-    requires { ⌜ (first .kind ≡ 4) × Judged (now image) first ⌝ }
-    ensures { λ r. ⌜ Onward (now (image .entry)) from first r ⌝ }
+fn halt(run: Run, fine: bool) -> Run
+    ensures { λ r. ⌜ r ≡ halted run fine ⌝ }
 {
-    let mut at = from;
-    let mut last = first;
-    let mut minute = first.label.a.instant();
-    let mut key = parts::reading_key(image, at);
-    while key.kind == 4 {
+    let last = run.last;
+    Run {
+        going: false,
+        fine,
+        at: run.at,
+        last,
+        minute: run.minute,
+    }
+}
+
+// Over a record that fits, and no further than to one that does not.
+fn advance(run: Run, fits: bool, next: usize, key: Key, minute: i64) -> Run
+    ensures { λ r. ⌜ r ≡ advanced run fits next key minute ⌝ }
+{
+    if fits {
+        return Run {
+            going: true,
+            fine: true,
+            at: next,
+            last: key,
+            minute,
+        };
+    }
+    halt(run, false)
+}
+
+// Over one reading behind a reading.
+fn next_reading(image: &[u8], run: Run) -> Run
+    requires { ⌜ Going 4 (now image) run ⌝ }
+    ensures { λ r. ⌜ Next 4 (now (image .entry)) run r ⌝ }
+{
+    let at = run.at;
+    let key = fields::reading_key(image, at);
+    if key.kind == 4 {
         let moment = key.label.a.moment();
-        if reading_fits(image, last, minute, key, moment) {
-            last = key;
-            minute = moment.minute;
-            at += 41;
-            key = parts::reading_key(image, at);
-        } else {
-            return Walked {
-                fine: false,
-                at,
-                last,
-            };
-        }
+        let fits = reading_fits(image, run.last, run.minute, key, moment);
+        return advance(run, fits, at + 41, key, moment.minute);
     }
-    Walked {
-        fine: true,
-        at,
-        last,
-    }
+    halt(run, true)
 }
 
-// The events behind an event.
-fn events(image: &[u8], from: usize, first: Key) -> Walked
-    requires { ⌜ (first .kind ≡ 5) × Judged (now image) first ⌝ }
-    ensures { λ r. ⌜ Onward (now (image .entry)) from first r ⌝ }
+// Over one event behind an event.
+fn next_event(image: &[u8], run: Run) -> Run
+    requires { ⌜ Going 5 (now image) run ⌝ }
+    ensures { λ r. ⌜ Next 5 (now (image .entry)) run r ⌝ }
 {
-    let mut at = from;
-    let mut last = first;
-    let mut minute = first.label.a.instant();
-    let mut key = parts::event_key(image, at);
-    while key.kind == 5 {
+    let at = run.at;
+    let key = fields::event_key(image, at);
+    if key.kind == 5 {
         let moment = key.label.moment();
-        if event_fits(image, last, minute, key, moment) {
-            last = key;
-            minute = moment.minute;
-            at += 15;
-            key = parts::event_key(image, at);
-        } else {
-            return Walked {
-                fine: false,
-                at,
-                last,
-            };
-        }
+        let fits = event_fits(image, run.last, run.minute, key, moment);
+        return advance(run, fits, at + 15, key, moment.minute);
     }
-    Walked {
-        fine: true,
-        at,
-        last,
-    }
+    halt(run, true)
 }
 
-// The run of readings or events, if any, that goes on behind a record.
-fn run_behind(image: &[u8], at: usize, last: Key) -> Walked
-    requires { ⌜ Judged (now image) last ⌝ }
+// The run of readings or events, if any, that goes on behind a record. Each kind has a loop: one that asks for the kind at each record is slower.
+fn run_behind(image: &[u8], at: usize, last: Key) -> Run
+    requires { ⌜ Passed (now image) last ⌝ }
     ensures { λ r. ⌜ Onward (now (image .entry)) at last r ⌝ }
 {
-    if last.kind == 4 {
-        return readings(image, at, last);
-    }
-    if last.kind == 5 {
-        return events(image, at, last);
-    }
-    Walked {
+    let kind = last.kind;
+    let minute = last.label.a.instant();
+    let mut run = Run {
+        going: 4 <= kind,
         fine: true,
         at,
         last,
+        minute,
+    };
+    if kind == 4 {
+        while run.going {
+            run = next_reading(image, run);
+        }
+        return run;
     }
+    while run.going {
+        run = next_event(image, run);
+    }
+    run
 }
 
 // The walk: each record right, neighbours in order, each point named among the points, records to the exact end.
@@ -330,12 +338,12 @@ fn is_orderly(image: &[u8]) -> bool
     let mut at = 1;
     let mut next = records::after(image, at);
     while at < next {
-        let key = parts::key_at(image, at);
+        let key = fields::key_at(image, at);
         if does_fit(image, at, last, key) {
-            let walked = run_behind(image, next, key);
-            if walked.fine {
-                last = walked.last;
-                at = walked.at;
+            let run = run_behind(image, next, key);
+            if run.fine {
+                last = run.last;
+                at = run.at;
                 next = records::after(image, at);
             } else {
                 return false;
@@ -364,7 +372,7 @@ pub fn sound(image: &[u8]) -> bool
         return false;
     }
     // before the walk, so that a point is looked up among eight at most
-    let points = parts::points(image);
+    let points = fields::points(image);
     if points < 1 {
         return false;
     }

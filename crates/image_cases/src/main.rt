@@ -4,11 +4,11 @@ use address::PointAddress;
 use choice::Found;
 use choice::Query;
 use choice::Span;
-use parts::DatesFound;
-use parts::EventFound;
-use parts::HeadFound;
-use parts::PointFound;
-use parts::ValueFound;
+use fields::DatesFound;
+use fields::EventFound;
+use fields::IdentityFound;
+use fields::PointFound;
+use fields::ValueFound;
 
 fn text(s: &[u8]) {
     io::write_all(1, s);
@@ -52,7 +52,7 @@ fn joined(name: &[u8], first: &[u8], second: &[u8], third: &[u8], fourth: &[u8])
     verdict(name, octets::part(&image, 0, end));
 }
 
-// Version and first record: link address 1, date 1, maker 2, product 01020304 hex.
+// Version and first record_address: link address 1, date 1, maker 2, product 01020304 hex.
 fn head() -> [u8; 12] {
     [1, 0, 9, 1, 0, 1, 1, 2, 1, 2, 3, 4]
 }
@@ -397,20 +397,13 @@ fn gathered() -> [u8; 252] {
 }
 
 // From a minute to a minute of 1 January 2001: that day's minute 0 is minute 527040.
-fn span(record: u8, first: i64, last: i64) -> Span {
+fn span(record_address: u8, first: i64, last: i64) -> Span {
     Span {
         point: PointAddress(1),
-        record,
+        record_address,
         first,
         last,
     }
-}
-
-fn counted(name: &[u8], image: &[u8], query: Query) {
-    text(name);
-    text(b": ");
-    number(choice::count(image, query) as u64);
-    text(b"\n");
 }
 
 fn found(name: &[u8], found: Found) {
@@ -425,46 +418,30 @@ fn found(name: &[u8], found: Found) {
     }
 }
 
-fn counts(image: &[u8]) {
-    counted(b"records of kind 4", image, Query::Kind(4));
-    counted(
-        b"readings 00:15 to 00:45",
-        image,
-        Query::Reading(span(11, 527055, 527085)),
-    );
-    counted(
-        b"readings 00:16 to 00:45",
-        image,
-        Query::Reading(span(11, 527056, 527085)),
-    );
-    counted(
-        b"readings 00:15 to 00:44",
-        image,
-        Query::Reading(span(11, 527055, 527084)),
+// Of the readings and events from a minute to a minute, one counted from 0.
+fn reading_of(name: &[u8], image: &[u8], record_address: u8, first: i64, last: i64, n: usize) {
+    found(
+        name,
+        choice::find(image, Query::Reading(span(record_address, first, last)), n),
     );
 }
 
-fn more_counts(image: &[u8]) {
-    counted(
-        b"readings 00:45 to 00:15",
-        image,
-        Query::Reading(span(11, 527085, 527055)),
+fn event_of(name: &[u8], image: &[u8], first: i64, last: i64, n: usize) {
+    found(
+        name,
+        choice::find(image, Query::Event(span(52, first, last)), n),
     );
-    counted(
-        b"readings of record 21",
-        image,
-        Query::Reading(span(21, 527055, 527085)),
-    );
-    counted(
-        b"events 00:15 to 00:15",
-        image,
-        Query::Event(span(52, 527055, 527055)),
-    );
-    counted(
-        b"events 00:15 to 00:16",
-        image,
-        Query::Event(span(52, 527055, 527056)),
-    );
+}
+
+fn borders(image: &[u8]) {
+    reading_of(b"first reading from 00:16 on", image, 11, 527056, 527085, 0);
+    reading_of(b"third reading to 00:44", image, 11, 527055, 527084, 2);
+    reading_of(b"reading from 00:45 to 00:15", image, 11, 527085, 527055, 0);
+    reading_of(b"reading of record 21", image, 21, 527055, 527085, 0);
+    event_of(b"third event to 00:15", image, 527055, 527055, 2);
+    event_of(b"third event to 00:16", image, 527055, 527056, 2);
+    event_of(b"second event", image, 527055, 527056, 1);
+    event_of(b"event of 00:16", image, 527056, 527056, 0);
 }
 
 fn finds(image: &[u8]) {
@@ -477,28 +454,9 @@ fn finds(image: &[u8]) {
     found(b"next reading from 166", choice::next(image, readings, 166));
 }
 
-fn more_finds(image: &[u8]) {
-    found(
-        b"second event",
-        choice::find(image, Query::Event(span(52, 527055, 527056)), 1),
-    );
-    found(
-        b"event of 00:16",
-        choice::find(image, Query::Event(span(52, 527056, 527056)), 0),
-    );
-    found(
-        b"point 2",
-        choice::find(image, Query::Point(PointAddress(2)), 0),
-    );
-    found(
-        b"point 3",
-        choice::find(image, Query::Point(PointAddress(3)), 0),
-    );
-}
-
 fn first_record(image: &[u8]) {
-    match parts::head_of(image) {
-        HeadFound::Is(head) => {
+    match fields::identity_of(image) {
+        IdentityFound::Is(head) => {
             text(b"link ");
             number(head.link.0 as u64);
             text(b", date ");
@@ -509,12 +467,12 @@ fn first_record(image: &[u8]) {
             number(head.product as u64);
             text(b"\n");
         }
-        HeadFound::Nothing => text(b"no head\n"),
+        IdentityFound::Nothing => text(b"no head\n"),
     }
 }
 
 fn password(image: &[u8], address: u16) {
-    match parts::point_of(image, PointAddress(address)) {
+    match fields::point_of(image, PointAddress(address)) {
         PointFound::Is(point) => {
             text(b"point, number ");
             number(point.number as u64);
@@ -527,7 +485,7 @@ fn password(image: &[u8], address: u16) {
 }
 
 fn hours(image: &[u8]) {
-    match parts::dates_of(image) {
+    match fields::dates_of(image) {
         DatesFound::Is(dates) => {
             text(b"switch dates, hours ");
             number(dates.first.hour as u64);
@@ -540,7 +498,7 @@ fn hours(image: &[u8]) {
 }
 
 fn object(image: &[u8], at: usize, object: u8) {
-    match parts::value_at(image, at, object) {
+    match fields::value_at(image, at, object) {
         ValueFound::Is(value) => {
             let bits = octets::unsigned(value.value) as u64;
             text(b"value ");
@@ -559,7 +517,7 @@ fn object(image: &[u8], at: usize, object: u8) {
 }
 
 fn occurrence(image: &[u8], at: usize) {
-    match parts::event_at(image, at) {
+    match fields::event_at(image, at) {
         EventFound::Is(event) => {
             text(b"event, SPA ");
             number(event.spa as u64);
@@ -610,8 +568,6 @@ fn main() {
     let image = gathered();
     single(&image);
     objects(&image);
-    counts(&image);
-    more_counts(&image);
+    borders(&image);
     finds(&image);
-    more_finds(&image);
 }

@@ -3,6 +3,7 @@
 use denote.Ref.{now}
 use Rattle.octets.proofs.Outcome.{OneResult, OneReading, one-outcome}
 use Rattle.input.proofs.length_of_2.Reads as length-of-2
+use Rattle.input.proofs.clock_at.Reads as clock-at
 use Rattle.input.proofs.head_size.Reads as head-size
 use Rattle.input.proofs.image_in.Reads as image-in
 use Rattle.input.proofs.clock_in.Reads as clock-in
@@ -14,6 +15,9 @@ use Rattle.input.proofs.judge_call.Reads as judge-call
 
 length-of-2-one : OneResult length-of-2.Post
 length-of-2-one κs a r r′ s s′ = one-outcome
+
+clock-at-one : OneResult clock-at.Post
+clock-at-one κs a r r′ s s′ = one-outcome
 
 head-size-one : OneResult head-size.Post
 head-size-one κs a r r′ s s′ = one-outcome

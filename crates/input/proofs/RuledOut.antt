@@ -18,8 +18,9 @@ use Rattle.image.specs.Image.{soundImage}
 use Rattle.input.specs.declared.Head.the-variants as head
 use Rattle.input.specs.declared.Run.the-variants as run
 use Rattle.input.specs.declared.Call.the-variants as call
-use Rattle.input.specs.Input.{lengthOf2, lengthOf3, headSize, imageIn, clockIn, headOf, runSize, runOf, callSize, wholeCall, callOf}
+use Rattle.input.specs.Input.{lengthOf2, lengthOf3, clockAt, headSize, imageIn, clockIn, headFound, runSize, runFound, callSize, wholeCall, callFound}
 use Rattle.input.proofs.length_of_2.Reads as length-of-2
+use Rattle.input.proofs.clock_at.Reads as clock-at
 use Rattle.input.proofs.head_size.Reads as head-size
 use Rattle.input.proofs.image_in.Reads as image-in
 use Rattle.input.proofs.clock_in.Reads as clock-in
@@ -55,6 +56,18 @@ module _ (κs : Lfts 1) (x y : Place) where
   unfolding lengthOf2 highFirst lowFirst
   length-of-2-swapped a b n s p = n (omega arith)
 
+  -- a clock from the input's first octet on, whatever the index, whenever its first octet is another
+  clock-at-index : (a b c d e f g h : ℕ) → (a ≡ b → ⊥)
+      → RuledOut (clock-at.Post κs) (lent x (a ∷ b ∷ c ∷ d ∷ e ∷ f ∷ g ∷ h ∷ []), (1, tt)) (a ∷ b ∷ c ∷ d ∷ e ∷ f ∷ g ∷ [])
+  unfolding clockAt over
+  clock-at-index a b c d e f g h n s p = n (cc)
+
+  -- a clock of which the last octet is missing with another than 0 for it
+  clock-at-cut : (a b c d e f g : ℕ) → (0 ≡ g → ⊥)
+      → RuledOut (clock-at.Post κs) (lent x (a ∷ b ∷ c ∷ d ∷ e ∷ f ∷ []), (0, tt)) (a ∷ b ∷ c ∷ d ∷ e ∷ f ∷ g ∷ [])
+  unfolding clockAt over
+  clock-at-cut a b c d e f g n s p = n (cc)
+
   -- a head that ends with the image, whatever its length
   head-size-clock : (a b : ℕ) → RuledOut (head-size.Post κs) (lent x (1 ∷ a ∷ b ∷ []), tt) (3 + (b + 256 * a))
   unfolding headSize lengthOf2 highFirst lowFirst
@@ -85,34 +98,34 @@ module _ (κs : Lfts 1) (x y : Place) where
     -- a clock two octets early, whenever its first octet is not 1
     clock-in-first : (1 ≡ a → ⊥)
         → RuledOut (clock-in.Post κs) (lent x (1 ∷ 0 ∷ 1 ∷ image ∷ a ∷ b ∷ c ∷ d ∷ e ∷ f ∷ g ∷ []), tt) (1 ∷ image ∷ a ∷ b ∷ c ∷ d ∷ e ∷ [])
-    unfolding clockIn over lengthOf2 highFirst lowFirst
+    unfolding clockIn clockAt over lengthOf2 highFirst lowFirst
     clock-in-first n s p = n (cc)
 
     -- a clock of six octets and a 0, whenever the seventh is not 0
     clock-in-six : (0 ≡ g → ⊥)
         → RuledOut (clock-in.Post κs) (lent x (1 ∷ 0 ∷ 1 ∷ image ∷ a ∷ b ∷ c ∷ d ∷ e ∷ f ∷ g ∷ []), tt) (a ∷ b ∷ c ∷ d ∷ e ∷ f ∷ 0 ∷ [])
-    unfolding clockIn over lengthOf2 highFirst lowFirst
+    unfolding clockIn clockAt over lengthOf2 highFirst lowFirst
     clock-in-six n s p = n (cc)
 
   -- another version called cut, whatever follows it
   judge-head-version : (v : ℕ) (rest : List ℕ) → (v ≡ 1 → ⊥) → RuledOut (judge-head.Post κs) (lent x (v ∷ rest), tt) head.Cut
-  unfolding headOf
+  unfolding headFound
   judge-head-version v rest n s p = never (cc (le-ltb (length (v ∷ rest)) 1 (omega arith), ne-eqb v 1 n))
 
   -- an unsound image let through, whatever was read
   judge-head-image : (read : List ℕ) → soundImage (imageIn read) ≡ false → RuledOut (judge-head.Post κs) (lent x read, tt) head.Whole
-  unfolding headOf
+  unfolding headFound
   judge-head-image read unsound s p =
       not-both unsound (whole-last (ltb (length read) 1) (not (eqb (getD read 0 0) 1)) (ltb (length read) (headSize read)) (soundImage (imageIn read)) p)
 
   -- input cut before the clock's end called an unsound image
   judge-head-cut : RuledOut (judge-head.Post κs) (lent x (1 ∷ 0 ∷ 0 ∷ []), tt) head.Image
-  unfolding headOf headSize lengthOf2 highFirst lowFirst
+  unfolding headFound headSize lengthOf2 highFirst lowFirst
   judge-head-cut s p = never (cc)
 
   -- empty input called another version
   judge-head-empty : RuledOut (judge-head.Post κs) (lent x [], tt) head.Version
-  unfolding headOf
+  unfolding headFound
   judge-head-empty s p = never (cc)
 
   -- a run's length counted as one octet, whatever it is
@@ -132,17 +145,17 @@ module _ (κs : Lfts 1) (x y : Place) where
 
   -- a cut run called the end
   judge-run-cut : (a : ℕ) → RuledOut (judge-run.Post κs) (lent x (a ∷ []), tt) run.End
-  unfolding runOf runSize
+  unfolding runFound runSize
   judge-run-cut a s p = never (cc)
 
   -- the end called a cut run
   judge-run-end : RuledOut (judge-run.Post κs) (lent x [], tt) run.Cut
-  unfolding runOf
+  unfolding runFound
   judge-run-end s p = never (cc)
 
   -- an empty run called the end
   judge-run-empty : RuledOut (judge-run.Post κs) (lent x (0 ∷ 0 ∷ []), tt) run.End
-  unfolding runOf runSize lengthOf2 highFirst lowFirst
+  unfolding runFound runSize lengthOf2 highFirst lowFirst
   judge-run-empty s p = never (cc)
 
   -- a clock call of six octets, whatever they are
@@ -157,20 +170,20 @@ module _ (κs : Lfts 1) (x y : Place) where
 
   -- a cut call called the end
   judge-call-cut : RuledOut (judge-call.Post κs) (lent x (73 ∷ []), tt) call.End
-  unfolding callOf callSize
+  unfolding callFound callSize
   judge-call-cut s p = never (cc)
 
   -- the end called a cut call
   judge-call-end : RuledOut (judge-call.Post κs) (lent x [], tt) call.Cut
-  unfolding callOf
+  unfolding callFound
   judge-call-end s p = never (cc)
 
   -- a reply buffer of 301 octets taken for a call
   judge-call-room : RuledOut (judge-call.Post κs) (lent x (66 ∷ 1 ∷ 45 ∷ []), tt) call.Room
-  unfolding callOf callSize wholeCall lengthOf2 highFirst lowFirst
+  unfolding callFound callSize wholeCall lengthOf2 highFirst lowFirst
   judge-call-room s p = never (cc)
 
   -- an unknown letter taken for a gap
   judge-call-letter : RuledOut (judge-call.Post κs) (lent x (88 ∷ []), tt) call.Gap
-  unfolding callOf callSize wholeCall
+  unfolding callFound callSize wholeCall
   judge-call-letter s p = never (cc)

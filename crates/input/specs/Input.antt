@@ -24,6 +24,10 @@ lengthOf2 read at = highFirst (getD read at 0 ∷ getD read (at + 1) 0 ∷ [])
 unfoldable pub lengthOf3 : List ℕ → ℕ → ℕ
 lengthOf3 read at = highFirst (getD read at 0 ∷ getD read (at + 1) 0 ∷ getD read (at + 2) 0 ∷ [])
 
+-- seven clock octets from an index on, zeros for what is missing
+unfoldable pub clockAt : List ℕ → ℕ → List ℕ
+clockAt read at = over (replicate 7 0) 0 (take 7 (drop at read))
+
 -- the head: version 1, 2-octet image length, image, 7 clock octets; of another version only the version is asked for
 unfoldable pub headSize : List ℕ → ℕ
 headSize read =
@@ -36,11 +40,11 @@ unfoldable pub imageIn : List ℕ → List ℕ
 imageIn read = take (lengthOf2 read 1) (drop 3 read)
 
 unfoldable pub clockIn : List ℕ → List ℕ
-clockIn read = over (replicate 7 0) 0 (take 7 (drop (3 + lengthOf2 read 1) read))
+clockIn read = clockAt read (3 + lengthOf2 read 1)
 
 -- empty input is cut; then other version, cut before the clock's end, image unsound
-unfoldable pub headOf : List ℕ → Head
-headOf read =
+unfoldable pub headFound : List ℕ → Head
+headFound read =
     if ltb (length read) 1 then head.Cut else
     if not (eqb (getD read 0 0) 1) then head.Version else
     if ltb (length read) (headSize read) then head.Cut else
@@ -51,8 +55,8 @@ headOf read =
 unfoldable pub runSize : List ℕ → ℕ
 runSize read = if ltb (length read) 2 then 2 else 2 + lengthOf2 read 0
 
-unfoldable pub runOf : List ℕ → Run
-runOf read =
+unfoldable pub runFound : List ℕ → Run
+runFound read =
     if ltb (length read) 1 then run.End else
     if ltb (length read) (runSize read) then run.Cut else
     run.Whole
@@ -76,8 +80,8 @@ wholeCall read =
     if eqb (getD read 0 0) 71 then call.Gap else
     call.Wrong
 
-unfoldable pub callOf : List ℕ → Call
-callOf read =
+unfoldable pub callFound : List ℕ → Call
+callFound read =
     if ltb (length read) 1 then call.End else
     if ltb (length read) (callSize read) then call.Cut else
     wholeCall read

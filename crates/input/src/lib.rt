@@ -1,6 +1,6 @@
 // How the programs' inputs are taken apart: functions on the octets read so far, so that a program only reads, calls and writes.
 ghost use mathlib.Core.Path.{_≡_};
-ghost use Rattle.input.specs.Input.{lengthOf2, lengthOf3, headSize, imageIn, clockIn, headOf, runSize, runOf, callSize, wholeCall, callOf};
+ghost use Rattle.input.specs.Input.{lengthOf2, lengthOf3, clockAt, headSize, imageIn, clockIn, headFound, runSize, runFound, callSize, wholeCall, callFound};
 
 // What stands before the runs: another version, input that is cut, an unsound image, or all in order.
 pub enum Head {
@@ -50,6 +50,15 @@ fn length_of_3(read: &[u8], at: u8) -> u32
     )
 }
 
+// Seven clock octets from an index on; a clock that is cut ends with zeros.
+pub fn clock_at(read: &[u8], at: usize) -> [u8; 7]
+    ensures { λ r. ⌜ r ≡ clockAt (now (read .entry)) at ⌝ }
+{
+    let mut clock = [0; 7];
+    octets::put(&mut clock, 0, octets::part(read, at, 7));
+    clock
+}
+
 // How many octets the head has, as far as those read tell.
 pub fn head_size(read: &[u8]) -> usize
     ensures { λ r. ⌜ r ≡ headSize (now (read .entry)) ⌝ }
@@ -75,18 +84,12 @@ pub fn image_in(read: &[u8]) -> &[u8]
 pub fn clock_in(read: &[u8]) -> [u8; 7]
     ensures { λ r. ⌜ r ≡ clockIn (now (read .entry)) ⌝ }
 {
-    let mut clock = [0; 7];
-    octets::put(
-        &mut clock,
-        0,
-        octets::part(read, 3 + length_of_2(read, 1) as usize, 7),
-    );
-    clock
+    clock_at(read, 3 + length_of_2(read, 1) as usize)
 }
 
 // What a head is, when no more octets come.
 pub fn judge_head(read: &[u8]) -> Head
-    ensures { λ r. ⌜ r ≡ headOf (now (read .entry)) ⌝ }
+    ensures { λ r. ⌜ r ≡ headFound (now (read .entry)) ⌝ }
 {
     if read.len() < 1 {
         return Head::Cut;
@@ -113,7 +116,7 @@ pub fn run_size(read: &[u8]) -> usize
 }
 
 pub fn judge_run(read: &[u8]) -> Run
-    ensures { λ r. ⌜ r ≡ runOf (now (read .entry)) ⌝ }
+    ensures { λ r. ⌜ r ≡ runFound (now (read .entry)) ⌝ }
 {
     if read.len() < 1 {
         return Run::End;
@@ -182,7 +185,7 @@ fn whole_call(read: &[u8]) -> Call
 }
 
 pub fn judge_call(read: &[u8]) -> Call
-    ensures { λ r. ⌜ r ≡ callOf (now (read .entry)) ⌝ }
+    ensures { λ r. ⌜ r ≡ callFound (now (read .entry)) ⌝ }
 {
     if read.len() < 1 {
         return Call::End;

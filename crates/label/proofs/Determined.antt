@@ -1,7 +1,10 @@
 -- Every public contract of this crate leaves one outcome.
 -- By its one equation. Assumes nothing.
 use Rattle.octets.proofs.Outcome.{OneResult, one-outcome}
-use Rattle.label.proofs.DateTime.is_real.Reads as is-real
+use Rattle.label.proofs.LabelA.read.Reads as a-read
+use Rattle.label.proofs.LabelA.octets.Reads as a-octets
+use Rattle.label.proofs.LabelB.read.Reads as b-read
+use Rattle.label.proofs.LabelB.octets.Reads as b-octets
 use Rattle.label.proofs.LabelA.date_time.Reads as a-date-time
 use Rattle.label.proofs.LabelA.is_valid.Reads as a-is-valid
 use Rattle.label.proofs.LabelA.instant.Reads as a-instant
@@ -14,8 +17,17 @@ use Rattle.label.proofs.LabelB.is_before.Reads as b-is-before
 use Rattle.label.proofs.LabelA.moment.Reads as a-moment
 use Rattle.label.proofs.LabelB.moment.Reads as b-moment
 
-is-real-one : OneResult is-real.Post
-is-real-one κs a r r′ s s′ = one-outcome
+a-read-one : OneResult a-read.Post
+a-read-one κs a r r′ s s′ = one-outcome
+
+a-octets-one : OneResult a-octets.Post
+a-octets-one κs a r r′ s s′ = one-outcome
+
+b-read-one : OneResult b-read.Post
+b-read-one κs a r r′ s s′ = one-outcome
+
+b-octets-one : OneResult b-octets.Post
+b-octets-one κs a r r′ s s′ = one-outcome
 
 a-date-time-one : OneResult a-date-time.Post
 a-date-time-one κs a r r′ s s′ = one-outcome

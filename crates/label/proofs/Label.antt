@@ -1,12 +1,17 @@
--- What valid labels are, as facts instead of tests.
--- Condition by condition. Assumes nothing.
+-- Labels in octets, where they stand and in a part that is cut out; what valid labels are, as facts instead of tests.
+-- Octet by octet; condition by condition. Assumes nothing.
 use Prim.Native.Nat.{ℕ, _+_, _*_, _/_, _%_, _^_, _<_, _≤_}
 use mathlib.Core.Bool.{Bool, true, false, and-true}
+use mathlib.Core.List.{List}
 use mathlib.Core.Path.{_≡_, refl, ap, sym, _∙_}
+use native.Mathlib.Nat.{add-assoc}
+use native.Mathlib.Numerals.{unary-clauses}
 use native.Mathlib.Omega.{arith}
 use borrow.Author.Tests.{eqb-true, leb-true, eq-eqb, le-leb}
 use lib.Dec.{ltb, leb, eqb}
 use lib.IntN.{ℤ, pos}
+use lib.ListN.{length, getD, take, drop}
+use lib.Seq.{getD-take, getD-drop}
 use lib.Signed.{mag, ltZ}
 use mir.Syntax.{w64}
 use mir.Val.{toZ, ofZ}
@@ -15,22 +20,64 @@ use Rattle.octets.specs.Bits.{bits_to_of_}
 use Rattle.octets.specs.Conditions.{holds}
 use Rattle.octets.proofs.Computed.{at-each}
 use Rattle.octets.proofs.Conditions.{holds-at}
+use Rattle.octets.proofs.Lists.{part-at}
 use Rattle.label.specs.declared.DateTime.{DateTime}
 use Rattle.label.specs.declared.LabelA.{LabelA}
 use Rattle.label.specs.declared.LabelB.{LabelB}
 use Rattle.label.specs.declared.Moment.{Moment}
 use Rattle.label.specs.Calendar.{leap, monthLength}
 use Rattle.label.specs.Time.{real, minutes}
-use Rattle.label.specs.Label.{dateTimeA, iv, tis, etiPti, hourReserved, yearReserved, validA, instant, beforeA, second, millisecond, validB, inMinute, beforeB, momentA, momentB}
+use Rattle.label.specs.Label.{labelAAt, labelBAt, labelAOctets, labelBOctets, dateTimeA, validA, instant, beforeA, second, millisecond, validB, inMinute, beforeB, momentOf}
 use Rattle.label.proofs.Time.{real-facts, real-but-day}
+
+-- a label that a part of octets has whole is the one that stands there
+module _ (s : List ℕ) (width at : ℕ) where
+  in-part : (k : ℕ) → k < width → getD (take width (drop at s)) k 0 ≡ getD s (at + k) 0
+  in-part k h = getD-take width (drop at s) k 0 h ∙ getD-drop at s k 0
+
+  pub label-a-in : (k : ℕ) → k + 5 ≤ width → labelAAt (take width (drop at s)) k ≡ labelAAt s (at + k)
+  unfolding labelAAt
+  label-a-in k h =
+      rw (
+        in-part k (omega arith),
+        in-part (k + 1) (omega arith),
+        in-part (k + 2) (omega arith),
+        in-part (k + 3) (omega arith),
+        in-part (k + 4) (omega arith),
+        add-assoc at k 1,
+        add-assoc at k 2,
+        add-assoc at k 3,
+        add-assoc at k 4,
+      )
+
+  pub label-b-in : (k : ℕ) → k + 7 ≤ width → labelBAt (take width (drop at s)) k ≡ labelBAt s (at + k)
+  unfolding labelBAt
+  label-b-in k h =
+      rw (in-part k (omega arith), in-part (k + 1) (omega arith), label-a-in (k + 2) (omega arith), add-assoc at k 1, add-assoc at k 2)
+
+-- cut out alone, and written again
+module _ (s : List ℕ) (at : ℕ) where
+  pub label-a-cut : labelAAt (take 5 (drop at s)) 0 ≡ labelAAt s at
+  label-a-cut = simp unary-clauses at (label-a-in s 5 at 0 (omega arith))
+
+  pub label-b-cut : labelBAt (take 7 (drop at s)) 0 ≡ labelBAt s at
+  label-b-cut = simp unary-clauses at (label-b-in s 7 at 0 (omega arith))
+
+  pub label-a-written : at + 5 ≤ length s → labelAOctets (labelAAt s at) ≡ take 5 (drop at s)
+  unfolding labelAAt labelAOctets
+  label-a-written h = simp unary-clauses (sym (part-at 5 s at h))
+
+  pub label-b-written : at + 7 ≤ length s → labelBOctets (labelBAt s at) ≡ take 7 (drop at s)
+  unfolding labelBAt labelBOctets labelAAt labelAOctets
+  label-b-written h = simp unary-clauses (sym (part-at 7 s at h))
 
 pub record ValidA (l : LabelA) : Type 0 where
   pub real-time : real (dateTimeA l) ≡ true
-  pub no-iv : iv l ≡ 0
-  pub no-tis : tis l ≡ 0
-  pub no-eti-pti : etiPti l ≡ 0
-  pub no-hour-reserved : hourReserved l ≡ 0
-  pub no-year-reserved : yearReserved l ≡ 0
+  pub no-iv : bits 8 to 8 of (l .minute) ≡ 0
+  pub no-tis : bits 7 to 7 of (l .minute) ≡ 0
+  pub no-eti-pti : bits 5 to 8 of (l .month) ≡ 0
+  pub no-hour-reserved : bits 6 to 7 of (l .hour) ≡ 0
+  pub no-year-reserved : bits 8 to 8 of (l .year) ≡ 0
 
 pub valid-a : (l : LabelA) → validA l ≡ true → ValidA l
 unfolding validA
@@ -45,7 +92,7 @@ valid-a l e =
     }
 
 -- where the flags and reserved bits are 0, the date and time decides
-pub valid-but-real : (l : LabelA) → iv l ≡ 0 → tis l ≡ 0 → etiPti l ≡ 0 → hourReserved l ≡ 0 → yearReserved l ≡ 0 → real (dateTimeA l) ≡ validA l
+pub valid-but-real : (l : LabelA) → bits 8 to 8 of (l .minute) ≡ 0 → bits 7 to 7 of (l .minute) ≡ 0 → bits 5 to 8 of (l .month) ≡ 0 → bits 6 to 7 of (l .hour) ≡ 0 → bits 8 to 8 of (l .year) ≡ 0 → real (dateTimeA l) ≡ validA l
 unfolding validA holds
 valid-but-real l i t e h y = simp (eq-eqb _ _ i, eq-eqb _ _ t, eq-eqb _ _ e, eq-eqb _ _ h, eq-eqb _ _ y, and-true)
 
@@ -132,16 +179,15 @@ pub valid-but-millisecond : (l : LabelB) → validA (l .a) ≡ true → second l
 unfolding validB holds
 valid-but-millisecond l e s = simp (e, le-leb _ _ s, and-true)
 
--- validity and instant side by side
-pub moment-a : (l : LabelA) (valid : Bool) (minute : ℤ) → valid ≡ validA l → minute ≡ instant l
-    → _≡_ {A = Moment} (record { valid = valid; minute = minute }) (momentA l)
-unfolding momentA
-moment-a l valid minute e d = rw (e, d)
+-- validity and instant side by side, and each by itself
+pub moment-is : (a : LabelA) (v valid : Bool) (minute : ℤ) → valid ≡ v → minute ≡ instant a
+    → _≡_ {A = Moment} (record { valid = valid; minute = minute }) (momentOf v a)
+unfolding momentOf
+moment-is a v valid minute e d = rw (e, d)
 
-pub moment-b : (l : LabelB) (valid : Bool) (minute : ℤ) → valid ≡ validB l → minute ≡ instant (l .a)
-    → _≡_ {A = Moment} (record { valid = valid; minute = minute }) (momentB l)
-unfolding momentB
-moment-b l valid minute e d = rw (e, d)
+pub moment-facts : (a : LabelA) (v : Bool) (m : Moment) → m ≡ momentOf v a → (m .valid ≡ v) × (m .minute ≡ instant a)
+unfolding momentOf
+moment-facts a v m e = (ap (λ (n : Moment). n .valid) e, ap (λ (n : Moment). n .minute) e)
 
 -- of any octets, not only of a clock's
 pub second-small : (l : LabelB) → second l < 64
@@ -151,14 +197,6 @@ second-small l = omega arith
 pub millisecond-small : (l : LabelB) → millisecond l < 1024
 unfolding millisecond
 millisecond-small l = omega arith
-
-pub moment-a-facts : (l : LabelA) (m : Moment) → m ≡ momentA l → (m .valid ≡ validA l) × (m .minute ≡ instant l)
-unfolding momentA
-moment-a-facts l m e = (ap (λ (n : Moment). n .valid) e, ap (λ (n : Moment). n .minute) e)
-
-pub moment-b-facts : (l : LabelB) (m : Moment) → m ≡ momentB l → (m .valid ≡ validB l) × (m .minute ≡ instant (l .a))
-unfolding momentB
-moment-b-facts l m e = (ap (λ (n : Moment). n .valid) e, ap (λ (n : Moment). n .minute) e)
 
 -- a signed number that fits, through its bits and back
 pub back : (z : ℤ) → mag z < 2 ^ 63 → toZ w64 (ofZ w64 z) ≡ z

@@ -17,10 +17,20 @@ use Rattle.label.specs.declared.DateTime.{DateTime}
 use Rattle.label.specs.declared.LabelA.{LabelA}
 use Rattle.label.specs.declared.LabelB.{LabelB}
 use Rattle.label.specs.Calendar.{leap, monthLength, daysOfMonths, daysToYear, dayNumber}
-use Rattle.label.specs.Time.{minutes, partsOf, earlier}
-use Rattle.label.specs.Label.{dateTimeA, validA, instant, beforeA, second, millisecond, validB, inMinute, beforeB, partsA, partsB}
+use Rattle.label.specs.Time.{minutes, partsOf}
+use Rattle.label.specs.Label.{dateTimeA, validA, instant, beforeA, second, millisecond, validB, inMinute, beforeB, partsA}
 use Rattle.label.proofs.Time.{Real, real-facts}
 use Rattle.label.proofs.Label.{valid-a, valid-b, instant-valid}
+
+-- by parts: the first that differs decides
+unfoldable pub earlier : List ℕ → List ℕ → Bool
+earlier [] ys = false
+earlier (x ∷ xs) [] = false
+earlier (x ∷ xs) (y ∷ ys) = if eqb x y then earlier xs ys else ltb x y
+
+-- b also by second and millisecond
+unfoldable pub partsB : LabelB → List ℕ
+partsB l = partsA (l .a) ++ (second l ∷ millisecond l ∷ [])
 
 -- what grows from each number to the next grows
 grows : (f : ℕ → ℕ) → ((k : ℕ) → f k ≤ f (suc k)) → (k j : ℕ) → f k ≤ f (k + j)

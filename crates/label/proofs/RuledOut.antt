@@ -1,24 +1,30 @@
 -- What the public contracts of this crate do not allow: two wrong outcomes or more of each.
 -- By computation; of all labels by the condition that fails. Assumes nothing.
-use Prim.Native.Nat.{ℕ, _+_, _*_, _≤_}
+use Prim.Native.Nat.{ℕ, _+_, _*_, _%_, _≤_}
 use mathlib.Core.Bool.{Bool, true, false, false≢true}
+use mathlib.Core.List.{List, [], _∷_}
 use mathlib.Core.Path.{_≡_, sym, ap, _∙_}
 use native.Mathlib.Omega.{arith}
 use contract.Lifetimes.{Lfts}
 use lib.IntN.{ℤ, pos, natAbs}
+use lib.ListN.{length, getD}
 use borrow.Author.Tests.{ltb-true, eqb-true, le-ltb}
+use Rattle.octets.specs.Bits.{bits_to_of_}
 use Rattle.octets.specs.Conditions.{holds}
 use Rattle.octets.specs.Numbers.{lowFirst}
 use Rattle.octets.proofs.Conditions.{holds-at}
-use Rattle.octets.proofs.Outcome.{RuledOut, never}
+use Rattle.octets.proofs.Outcome.{RuledOut, Place, lent, never}
 use Rattle.label.specs.declared.DateTime.{DateTime}
 use Rattle.label.specs.declared.LabelA.{LabelA}
 use Rattle.label.specs.declared.LabelB.{LabelB}
 use Rattle.label.specs.declared.Moment.{Moment}
 use Rattle.label.specs.Calendar.{leap, leapDay, monthLength, daysOfMonths, daysToYear, dayNumber}
 use Rattle.label.specs.Time.{real, minutes}
-use Rattle.label.specs.Label.{dateTimeA, validA, instant, beforeA, millisecond, second, validB, inMinute, beforeB, momentA, momentB, iv, tis, etiPti, hourReserved}
-use Rattle.label.proofs.DateTime.is_real.Reads as is-real
+use Rattle.label.specs.Label.{labelAAt, labelBAt, labelAOctets, labelBOctets, dateTimeA, validA, instant, beforeA, millisecond, second, validB, inMinute, beforeB, momentOf}
+use Rattle.label.proofs.LabelA.read.Reads as a-read
+use Rattle.label.proofs.LabelA.octets.Reads as a-octets
+use Rattle.label.proofs.LabelB.read.Reads as b-read
+use Rattle.label.proofs.LabelB.octets.Reads as b-octets
 use Rattle.label.proofs.LabelA.date_time.Reads as a-date-time
 use Rattle.label.proofs.LabelA.is_valid.Reads as a-is-valid
 use Rattle.label.proofs.LabelA.instant.Reads as a-instant
@@ -31,13 +37,9 @@ use Rattle.label.proofs.LabelB.in_minute.Reads as b-in-minute
 use Rattle.label.proofs.LabelB.is_before.Reads as b-is-before
 use Rattle.label.proofs.LabelB.moment.Reads as b-moment
 
--- to unfold one of these is to unfold what a real date, a valid label, an instant stand on
-the-date : Unit {0}
-unfolding real holds leap leapDay monthLength
-the-date = tt
-
+-- to unfold one of these is to unfold what a valid label and an instant stand on
 the-label : Unit {0}
-unfolding validA dateTimeA the-date
+unfolding validA dateTimeA real holds leap leapDay monthLength
 the-label = tt
 
 the-instant : Unit {0}
@@ -54,41 +56,51 @@ labelA minute hour day month year = record { minute = minute; hour = hour; day =
 abbrev labelB : ℕ → ℕ → LabelA → LabelB
 labelB low high a = record { low = low; high = high; a = a }
 
+-- x: where the octets lie, of which no contract says anything
+module _ (x : Place) (κs : Lfts 1) where
+  -- the year read first, whenever the first octet differs from the fifth
+  a-read-order : (minute hour day month year : ℕ) → (year ≡ minute → ⊥)
+      → RuledOut (a-read.Post κs) (lent x (minute ∷ hour ∷ day ∷ month ∷ year ∷ []), tt) (labelA year month day hour minute)
+  unfolding labelAAt
+  a-read-order minute hour day month year n s p = n (ap (λ (l : LabelA). l .minute) p)
+
+  -- an octet that is not there as other than 0
+  a-read-short : (minute hour day month : ℕ) (l : LabelA) → (l .year ≡ 0 → ⊥) → RuledOut (a-read.Post κs) (lent x (minute ∷ hour ∷ day ∷ month ∷ []), tt) l
+  unfolding labelAAt
+  a-read-short minute hour day month l n s p = n (ap (λ (l : LabelA). l .year) p)
+
+  -- the two octets in front swapped, whenever they differ, whatever follows
+  b-read-swapped : (low high : ℕ) (rest : List ℕ) (a : LabelA) → (high ≡ low → ⊥) → RuledOut (b-read.Post κs) (lent x (low ∷ high ∷ rest), tt) (labelB high low a)
+  unfolding labelBAt
+  b-read-swapped low high rest a n s p = n (ap (λ (l : LabelB). l .low) p)
+
+  -- the label a read from the first octet on, whenever that is not the third
+  b-read-front : (low high minute : ℕ) (rest : List ℕ) → (low ≡ minute → ⊥)
+      → RuledOut (b-read.Post κs) (lent x (low ∷ high ∷ minute ∷ rest), tt) (labelB low high (labelAAt (low ∷ high ∷ minute ∷ rest) 0))
+  unfolding labelBAt labelAAt
+  b-read-front low high minute rest n s p = n (ap (λ (l : LabelB). l .a .minute) p)
+
 module _ (κs : Lfts 0) where
-  -- minute 60 as real, whatever the date and hour
-  is-real-minute : (year month day hour : ℕ) → RuledOut (is-real.Post κs) (date year month day hour 60, tt) true
-  unfolding real
-  is-real-minute year month day hour s p = false≢true (holds-at _ (sym p) 6)
+  -- the year written first, whenever it differs from the minute's octet
+  a-octets-order : (l : LabelA) → (l .year ≡ l .minute → ⊥)
+      → RuledOut (a-octets.Post κs) (l, tt) (l .year ∷ l .month ∷ l .day ∷ l .hour ∷ l .minute ∷ [])
+  unfolding labelAOctets
+  a-octets-order l n s p = n (cc)
 
-  -- hour 24 as real, whatever the date and minute
-  is-real-hour : (year month day minute : ℕ) → RuledOut (is-real.Post κs) (date year month day 24 minute, tt) true
-  unfolding real
-  is-real-hour year month day minute s p = false≢true (holds-at _ (sym p) 5)
+  -- the octet of the day without the weekday
+  a-octets-day : (l : LabelA) → 32 ≤ l .day → RuledOut (a-octets.Post κs) (l, tt) (l .minute ∷ l .hour ∷ l .day % 32 ∷ l .month ∷ l .year ∷ [])
+  unfolding labelAOctets
+  a-octets-day l above s p = omega (arith, ap (λ (r : List ℕ). getD r 2 0) p)
 
-  -- day 0 as real, whatever the month and time
-  is-real-day : (year month hour minute : ℕ) → RuledOut (is-real.Post κs) (date year month 0 hour minute, tt) true
-  unfolding real
-  is-real-day year month hour minute s p = false≢true (holds-at _ (sym p) 3)
+  -- the two octets in front swapped, whenever they differ
+  b-octets-swapped : (l : LabelB) → (l .high ≡ l .low → ⊥) → RuledOut (b-octets.Post κs) (l, tt) (l .high ∷ l .low ∷ labelAOctets (l .a))
+  unfolding labelBOctets
+  b-octets-swapped l n s p = n (cc)
 
-  -- 29 February 2000 as not real
-  is-real-leap : RuledOut (is-real.Post κs) (date 0 2 29 0 0, tt) false
-  unfolding the-date
-  is-real-leap s p = never (cc)
-
-  -- 29 February 2001 as real
-  is-real-common : RuledOut (is-real.Post κs) (date 1 2 29 0 0, tt) true
-  unfolding the-date
-  is-real-common s p = never (cc)
-
-  -- 31 June as real, whatever the year and time
-  is-real-length : (year hour minute : ℕ) → RuledOut (is-real.Post κs) (date year 6 31 hour minute, tt) true
-  unfolding real monthLength
-  is-real-length year hour minute s p = false≢true (holds-at _ (sym p) 4)
-
-  -- the last day of a month as not real
-  is-real-last : RuledOut (is-real.Post κs) (date 26 12 31 23 59, tt) false
-  unfolding the-date
-  is-real-last s p = never (cc)
+  -- the label a alone
+  b-octets-a : (l : LabelB) → RuledOut (b-octets.Post κs) (l, tt) (labelAOctets (l .a))
+  unfolding labelBOctets labelAOctets
+  b-octets-a l s p = omega (arith, ap length p)
 
   -- the day with the weekday, whatever the rest
   a-date-time-weekday : (l : LabelA) (year month hour minute : ℕ) → 32 ≤ l .day
@@ -102,25 +114,60 @@ module _ (κs : Lfts 0) where
   unfolding dateTimeA
   a-date-time-hour l year month day minute above s p = omega (arith, ap (λ (r : DateTime). r .hour) p)
 
+  -- minute 60 as valid, whatever the date and hour
+  a-is-valid-minute : (hour day month year : ℕ) → RuledOut (a-is-valid.Post κs) (labelA 60 hour day month year, tt) true
+  unfolding validA real dateTimeA
+  a-is-valid-minute hour day month year s p = false≢true (holds-at _ (holds-at _ (sym p) 0) 6)
+
+  -- hour 24 as valid, whatever the date and minute
+  a-is-valid-hour : (minute day month year : ℕ) → RuledOut (a-is-valid.Post κs) (labelA minute 24 day month year, tt) true
+  unfolding validA real dateTimeA
+  a-is-valid-hour minute day month year s p = false≢true (holds-at _ (holds-at _ (sym p) 0) 5)
+
+  -- day 0 as valid, whatever the month and time
+  a-is-valid-day : (minute hour month year : ℕ) → RuledOut (a-is-valid.Post κs) (labelA minute hour 0 month year, tt) true
+  unfolding validA real dateTimeA
+  a-is-valid-day minute hour month year s p = false≢true (holds-at _ (holds-at _ (sym p) 0) 3)
+
+  -- 31 June as valid, whatever the year and time
+  a-is-valid-length : (minute hour year : ℕ) → RuledOut (a-is-valid.Post κs) (labelA minute hour 31 6 year, tt) true
+  unfolding validA real dateTimeA monthLength
+  a-is-valid-length minute hour year s p = false≢true (holds-at _ (holds-at _ (sym p) 0) 4)
+
+  -- 29 February 2000 as not valid
+  a-is-valid-leap : RuledOut (a-is-valid.Post κs) (labelA 0 0 29 2 0, tt) false
+  unfolding the-label
+  a-is-valid-leap s p = never (cc)
+
+  -- 29 February 2001 as valid
+  a-is-valid-common : RuledOut (a-is-valid.Post κs) (labelA 0 0 29 2 1, tt) true
+  unfolding the-label
+  a-is-valid-common s p = never (cc)
+
+  -- the last day of a year as not valid
+  a-is-valid-last : RuledOut (a-is-valid.Post κs) (labelA 59 23 31 12 26, tt) false
+  unfolding the-label
+  a-is-valid-last s p = never (cc)
+
   -- a label with IV set as valid, whatever the rest
-  a-is-valid-iv : (l : LabelA) → iv l ≡ 1 → RuledOut (a-is-valid.Post κs) (l, tt) true
+  a-is-valid-iv : (l : LabelA) → bits 8 to 8 of (l .minute) ≡ 1 → RuledOut (a-is-valid.Post κs) (l, tt) true
   unfolding validA
-  a-is-valid-iv l set s p = omega (arith, eqb-true (iv l) 0 (holds-at _ (sym p) 1))
+  a-is-valid-iv l set s p = omega (arith, eqb-true (bits 8 to 8 of (l .minute)) 0 (holds-at _ (sym p) 1))
 
   -- a label with TIS set as valid, whatever the rest
-  a-is-valid-tis : (l : LabelA) → tis l ≡ 1 → RuledOut (a-is-valid.Post κs) (l, tt) true
+  a-is-valid-tis : (l : LabelA) → bits 7 to 7 of (l .minute) ≡ 1 → RuledOut (a-is-valid.Post κs) (l, tt) true
   unfolding validA
-  a-is-valid-tis l set s p = omega (arith, eqb-true (tis l) 0 (holds-at _ (sym p) 2))
+  a-is-valid-tis l set s p = omega (arith, eqb-true (bits 7 to 7 of (l .minute)) 0 (holds-at _ (sym p) 2))
 
   -- a label with ETI or PTI set as valid, whatever the rest
-  a-is-valid-eti : (l : LabelA) → (etiPti l ≡ 0 → ⊥) → RuledOut (a-is-valid.Post κs) (l, tt) true
+  a-is-valid-eti : (l : LabelA) → (bits 5 to 8 of (l .month) ≡ 0 → ⊥) → RuledOut (a-is-valid.Post κs) (l, tt) true
   unfolding validA
-  a-is-valid-eti l set s p = set (eqb-true (etiPti l) 0 (holds-at _ (sym p) 3))
+  a-is-valid-eti l set s p = set (eqb-true (bits 5 to 8 of (l .month)) 0 (holds-at _ (sym p) 3))
 
   -- a label with a reserved bit of its hour set as valid, whatever the rest
-  a-is-valid-reserved : (l : LabelA) → (hourReserved l ≡ 0 → ⊥) → RuledOut (a-is-valid.Post κs) (l, tt) true
+  a-is-valid-reserved : (l : LabelA) → (bits 6 to 7 of (l .hour) ≡ 0 → ⊥) → RuledOut (a-is-valid.Post κs) (l, tt) true
   unfolding validA
-  a-is-valid-reserved l set s p = set (eqb-true (hourReserved l) 0 (holds-at _ (sym p) 4))
+  a-is-valid-reserved l set s p = set (eqb-true (bits 6 to 7 of (l .hour)) 0 (holds-at _ (sym p) 4))
 
   -- a label refused for SU
   a-is-valid-su : RuledOut (a-is-valid.Post κs) (labelA 0 0x80 1 1 26, tt) false
@@ -170,17 +217,17 @@ module _ (κs : Lfts 0) where
 
   -- the moment of a valid label told as not valid, whatever the instant
   a-moment-valid : (l : LabelA) (i : ℤ) → validA l ≡ true → RuledOut (a-moment.Post κs) (l, tt) (record { valid = false; minute = i })
-  unfolding momentA
+  unfolding momentOf
   a-moment-valid l i valid s p = false≢true (ap (λ (r : Moment). r .valid) p ∙ valid)
 
   -- the moment of a label that is not valid told as valid, whatever the instant
   a-moment-not-valid : (l : LabelA) (i : ℤ) → validA l ≡ false → RuledOut (a-moment.Post κs) (l, tt) (record { valid = true; minute = i })
-  unfolding momentA
+  unfolding momentOf
   a-moment-not-valid l i not-valid s p = false≢true (sym (ap (λ (r : Moment). r .valid) p ∙ not-valid))
 
   -- the days of an instant in place of its minutes
   a-moment-days : (v : Bool) → RuledOut (a-moment.Post κs) (labelA 0 0 2 1 0, tt) (record { valid = v; minute = pos 1 })
-  unfolding momentA the-instant
+  unfolding momentOf the-instant
   a-moment-days v s p = omega (arith, ap (λ (r : Moment). natAbs (r .minute)) p)
 
   module _ (a : LabelA) where
@@ -226,12 +273,12 @@ module _ (κs : Lfts 0) where
 
     -- the moment of a label with second 60 told as valid, whatever the minute
     b-moment-second : (i : ℤ) → RuledOut (b-moment.Post κs) (labelB 0 0xF0 a, tt) (record { valid = true; minute = i })
-    unfolding momentB validB holds second lowFirst
+    unfolding momentOf validB holds second lowFirst
     b-moment-second i s p = false≢true (sym (ap (λ (r : Moment). r .valid) p))
 
     -- the moment of a label with 1000 milliseconds told as valid, whatever the minute
     b-moment-millisecond : (i : ℤ) → RuledOut (b-moment.Post κs) (labelB 0xE8 3 a, tt) (record { valid = true; minute = i })
-    unfolding momentB validB holds second millisecond lowFirst
+    unfolding momentOf validB holds second millisecond lowFirst
     b-moment-millisecond i s p = false≢true (sym (ap (λ (r : Moment). r .valid) p))
 
   -- a second of 100 milliseconds, of every label with a second

@@ -50,13 +50,6 @@ room t e =
       days = omega (arith, years-rule (t .year) (omega arith), before-at-most (leap (t .year)) (t .month) (r .month-last));
     }
 
--- where all but the minute is real, the minute decides
-pub real-but-minute : (t : DateTime) → t .year ≤ 99 → 1 ≤ t .month → t .month ≤ 12 → 1 ≤ t .day → t .day ≤ monthLength (leap (t .year)) (t .month)
-    → t .hour ≤ 23 → leb (t .minute) 59 ≡ real t
-unfolding real holds
-real-but-minute t year month-first month-last day-first day-last hour =
-    simp (le-leb _ _ year, le-leb _ _ month-first, le-leb _ _ month-last, le-leb _ _ day-first, le-leb _ _ day-last, le-leb _ _ hour, and-true)
-
 -- where all but the day's end is real, the day's end decides
 pub real-but-day : (t : DateTime) → t .year ≤ 99 → 1 ≤ t .month → t .month ≤ 12 → 1 ≤ t .day → t .hour ≤ 23 → t .minute ≤ 59
     → leb (t .day) (monthLength (leap (t .year)) (t .month)) ≡ real t

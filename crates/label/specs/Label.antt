@@ -2,9 +2,10 @@
 -- Assumes nothing.
 use Prim.Native.Nat.{ℕ, _+_, _*_}
 use mathlib.Core.Bool.{Bool, true, false}
-use mathlib.Core.List.{List, [], _∷_, _++_}
+use mathlib.Core.List.{List, [], _∷_}
 use lib.Dec.{ltb, leb, eqb}
 use lib.IntN.{ℤ, pos}
+use lib.ListN.{getD}
 use lib.Signed.{ltZ}
 use Rattle.octets.specs.Bits.{bits_to_of_}
 use Rattle.octets.specs.Choice.{if_then_else_}
@@ -15,6 +16,21 @@ use Rattle.label.specs.declared.LabelA.{LabelA}
 use Rattle.label.specs.declared.LabelB.{LabelB}
 use Rattle.label.specs.declared.Moment.{Moment}
 use Rattle.label.specs.Time.{real, minutes, partsOf}
+
+-- the label a in the five octets from a place on, and the label b in seven; octets that are not there count as 0
+unfoldable pub labelAAt : List ℕ → ℕ → LabelA
+labelAAt s at =
+    record { minute = getD s at 0; hour = getD s (at + 1) 0; day = getD s (at + 2) 0; month = getD s (at + 3) 0; year = getD s (at + 4) 0 }
+
+unfoldable pub labelBAt : List ℕ → ℕ → LabelB
+labelBAt s at = record { low = getD s at 0; high = getD s (at + 1) 0; a = labelAAt s (at + 2) }
+
+-- a label's octets, in the same order
+unfoldable pub labelAOctets : LabelA → List ℕ
+labelAOctets l = l .minute ∷ l .hour ∷ l .day ∷ l .month ∷ l .year ∷ []
+
+unfoldable pub labelBOctets : LabelB → List ℕ
+labelBOctets l = l .low ∷ l .high ∷ labelAOctets (l .a)
 
 -- minute in bits 1 to 6, hour in bits 1 to 5, day in bits 1 to 5, month in bits 1 to 4, year in bits 1 to 7
 unfoldable pub dateTimeA : LabelA → DateTime
@@ -27,33 +43,17 @@ dateTimeA l =
       minute = bits 1 to 6 of (l .minute);
     }
 
--- TIS 7, IV 8; SU 8; weekday above; ETI and PTI above; other bits are reserved
-module _ (l : LabelA) where
-  abbrev pub tis : ℕ
-  tis = bits 7 to 7 of (l .minute)
-
-  abbrev pub iv : ℕ
-  iv = bits 8 to 8 of (l .minute)
-
-  abbrev pub etiPti : ℕ
-  etiPti = bits 5 to 8 of (l .month)
-
-  abbrev pub hourReserved : ℕ
-  hourReserved = bits 6 to 7 of (l .hour)
-
-  abbrev pub yearReserved : ℕ
-  yearReserved = bits 8 to 8 of (l .year)
-
--- valid: a real date and time; IV, TIS, ETI, PTI and reserved bits 0; neither the weekday nor SU is judged
+-- TIS 7, IV 8; SU 8; weekday above; ETI and PTI above; other bits are reserved. Valid: a real date and time; IV, TIS, ETI, PTI and reserved bits
+-- (two of the hour's octet, one of the year's) 0; neither the weekday nor SU is judged
 unfoldable pub validA : LabelA → Bool
 validA l =
     holds
     (real (dateTimeA l)
-    ∷ eqb (iv l) 0
-    ∷ eqb (tis l) 0
-    ∷ eqb (etiPti l) 0
-    ∷ eqb (hourReserved l) 0
-    ∷ eqb (yearReserved l) 0
+    ∷ eqb (bits 8 to 8 of (l .minute)) 0
+    ∷ eqb (bits 7 to 7 of (l .minute)) 0
+    ∷ eqb (bits 5 to 8 of (l .month)) 0
+    ∷ eqb (bits 6 to 7 of (l .hour)) 0
+    ∷ eqb (bits 8 to 8 of (l .year)) 0
     ∷ [])
 
 -- the minutes since 1 January 2000 00:00, a signed number; a label that is not valid has 0, so that every label has an instant
@@ -84,16 +84,10 @@ beforeB l l′ =
     if beforeA (l′ .a) (l .a) then false else
     ltb (inMinute l) (inMinute l′)
 
--- whether a label is valid, and its instant
-unfoldable pub momentA : LabelA → Moment
-momentA l = record { valid = validA l; minute = instant l }
+-- whether a label is valid, and its instant; that of a label b is its label a's
+unfoldable pub momentOf : Bool → LabelA → Moment
+momentOf valid a = record { valid = valid; minute = instant a }
 
-unfoldable pub momentB : LabelB → Moment
-momentB l = record { valid = validB l; minute = instant (l .a) }
-
--- the parts by which labels are compared on paper
+-- the parts by which labels a are compared on paper
 unfoldable pub partsA : LabelA → List ℕ
 partsA l = partsOf (dateTimeA l)
-
-unfoldable pub partsB : LabelB → List ℕ
-partsB l = partsA (l .a) ++ (second l ∷ millisecond l ∷ [])

@@ -1,10 +1,9 @@
--- A date and time: when it is real, its minute counted from 1 January 2000 00:00, and the parts by which it is compared.
+-- A date and time: when it is real, its minute counted from 1 January 2000 00:00, and its parts.
 -- Assumes nothing.
 use Prim.Native.Nat.{ℕ, _+_, _*_}
-use mathlib.Core.Bool.{Bool, false}
+use mathlib.Core.Bool.{Bool}
 use mathlib.Core.List.{List, [], _∷_}
-use lib.Dec.{ltb, leb, eqb}
-use Rattle.octets.specs.Choice.{if_then_else_}
+use lib.Dec.{leb}
 use Rattle.octets.specs.Conditions.{holds}
 use Rattle.label.specs.declared.DateTime.{DateTime}
 use Rattle.label.specs.Calendar.{leap, monthLength, dayNumber}
@@ -29,9 +28,3 @@ minutes t = dayNumber (t .year) (t .month) (t .day) * 1440 + (t .hour * 60 + t .
 -- compared by year, month, day, hour, minute
 unfoldable pub partsOf : DateTime → List ℕ
 partsOf t = t .year ∷ t .month ∷ t .day ∷ t .hour ∷ t .minute ∷ []
-
--- by parts: the first that differs decides
-unfoldable pub earlier : List ℕ → List ℕ → Bool
-earlier [] ys = false
-earlier (x ∷ xs) [] = false
-earlier (x ∷ xs) (y ∷ ys) = if eqb x y then earlier xs ys else ltb x y

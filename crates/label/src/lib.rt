@@ -1,10 +1,10 @@
-// Time labels a and b: what they say, whether they are valid, their instant and their order.
+// Time labels a and b: read from octets and written as octets, what they say, whether they are valid, their instant and their order.
 ghost use mathlib.Core.Path.{_≡_};
 ghost use mathlib.Core.Bool.{true};
 ghost use Prim.Native.Nat.{_+_, _-_, _≤_, _<_};
 ghost use Rattle.label.specs.Calendar.{leap, leapDay, monthLength, daysToYear, daysOfMonths};
 ghost use Rattle.label.specs.Time.{real, minutes};
-ghost use Rattle.label.specs.Label.{dateTimeA, validA, instant, beforeA, second, millisecond, validB, inMinute, beforeB, momentA, momentB};
+ghost use Rattle.label.specs.Label.{labelAAt, labelBAt, labelAOctets, labelBOctets, dateTimeA, validA, instant, beforeA, second, millisecond, validB, inMinute, beforeB, momentOf};
 
 // A date and time: the year's last two figures, 0 to 99 for 2000 to 2099. Any five numbers are a value; not every one is a real date.
 pub struct DateTime {
@@ -38,31 +38,6 @@ pub struct Moment {
 }
 
 impl DateTime {
-    // Whether the calendar has such a date and the clock such a time.
-    pub fn is_real(self) -> bool
-        ensures { λ r. ⌜ r ≡ real self ⌝ }
-    {
-        if 99 < self.year {
-            return false;
-        }
-        if self.month < 1 {
-            return false;
-        }
-        if 12 < self.month {
-            return false;
-        }
-        if self.day < 1 {
-            return false;
-        }
-        if month_length(self.year, self.month) < self.day {
-            return false;
-        }
-        if 23 < self.hour {
-            return false;
-        }
-        self.minute <= 59
-    }
-
     // The minutes since 1 January 2000 00:00.
     fn minutes(self) -> u32
         requires { ⌜ real self ≡ true ⌝ }
@@ -74,6 +49,26 @@ impl DateTime {
 }
 
 impl LabelA {
+    // The label in the first five octets; those that are not there count as 0.
+    pub fn read(s: &[u8]) -> LabelA
+        ensures { λ r. ⌜ r ≡ labelAAt (now (s .entry)) 0 ⌝ }
+    {
+        LabelA {
+            minute: octets::octet_at(s, 0),
+            hour: octets::octet_at(s, 1),
+            day: octets::octet_at(s, 2),
+            month: octets::octet_at(s, 3),
+            year: octets::octet_at(s, 4),
+        }
+    }
+
+    // Its five octets.
+    pub fn octets(self) -> [u8; 5]
+        ensures { λ r. ⌜ r ≡ labelAOctets self ⌝ }
+    {
+        [self.minute, self.hour, self.day, self.month, self.year]
+    }
+
     // The date and time that the label says.
     pub fn date_time(self) -> DateTime
         ensures { λ r. ⌜ r ≡ dateTimeA self ⌝ }
@@ -129,7 +124,7 @@ impl LabelA {
 
     // Whether it is valid, and its instant.
     pub fn moment(self) -> Moment
-        ensures { λ r. ⌜ r ≡ momentA self ⌝ }
+        ensures { λ r. ⌜ r ≡ momentOf (validA self) self ⌝ }
     {
         if self.is_valid() {
             let minute = self.date_time().minutes() as i64;
@@ -153,6 +148,33 @@ impl LabelA {
 }
 
 impl LabelB {
+    // The label in the first seven octets; those that are not there count as 0.
+    pub fn read(s: &[u8]) -> LabelB
+        ensures { λ r. ⌜ r ≡ labelBAt (now (s .entry)) 0 ⌝ }
+    {
+        LabelB {
+            low: octets::octet_at(s, 0),
+            high: octets::octet_at(s, 1),
+            a: LabelA::read(octets::part(s, 2, 5)),
+        }
+    }
+
+    // Its seven octets.
+    pub fn octets(self) -> [u8; 7]
+        ensures { λ r. ⌜ r ≡ labelBOctets self ⌝ }
+    {
+        let a = self.a;
+        [
+            self.low,
+            self.high,
+            a.minute,
+            a.hour,
+            a.day,
+            a.month,
+            a.year,
+        ]
+    }
+
     pub fn second(self) -> u8
         ensures { λ r. ⌜ r ≡ second self ⌝ }
     {
@@ -180,7 +202,7 @@ impl LabelB {
 
     // Whether it is valid, and its instant, which is that of its label a.
     pub fn moment(self) -> Moment
-        ensures { λ r. ⌜ r ≡ momentB self ⌝ }
+        ensures { λ r. ⌜ r ≡ momentOf (validB self) (self .a) ⌝ }
     {
         let a = self.a;
         if a.is_valid() {

@@ -1,40 +1,40 @@
 -- What the public contracts of this crate do not allow: two wrong outcomes or more of each.
 -- By the rules of the link, whatever the link, the image and the clock. Assumes nothing.
 use Prim.Native.Nat.{ℕ, _≤_, _<_}
-use mathlib.Core.Bool.{true, false, not, _||_, or-true, false≢true}
-use mathlib.Core.List.{List, [], _∷_}
+use mathlib.Core.Bool.{true, false, or-true, false≢true}
+use mathlib.Core.List.{List}
 use mathlib.Core.Logic.{_⊎_, inl, inr}
-use mathlib.Core.Path.{_≡_, refl, sym, ap, _∙_}
+use mathlib.Core.Path.{_≡_, sym, ap, _∙_}
 use native.Mathlib.Omega.{arith}
 use contract.Lifetimes.{Lfts}
+use denote.Ref.{RefT}
 use borrow.Author.Tests.{lt-ltb, le-ltb}
-use lib.Dec.{ltb, eqb}
-use lib.ListN.{getD}
-use Rattle.octets.proofs.Choice.{either}
+use Rattle.octets.specs.declared.Kept.{Kept}
 use Rattle.octets.proofs.Outcome.{RuledOut, Place, lent}
 use Rattle.address.specs.declared.LinkAddress.{LinkAddress}
-use Rattle.frame.specs.declared.Kind.the-variants.{Ack, Nack}
-use Rattle.frame.specs.Control.{offered, controlOf}
-use Rattle.parts.specs.Answers.{headFound}
-use Rattle.request.specs.declared.Session.the-variants.{Closed}
-use Rattle.carrying.specs.declared.Waiting.the-variants.{Nothing}
-use Rattle.carrying.specs.declared.Order.the-variants as order
-use Rattle.carrying.specs.declared.Carried.{Carried}
-use Rattle.carrying.specs.Carrying.{isWaiting, carriedOut, nothingPending}
-use Rattle.giving.specs.Giving.{nothingFound, nextOf}
-use Rattle.line.specs.declared.Heard.{Heard}
+use Rattle.frame.specs.declared.Control.the-variants.{Ack, Nack}
+use Rattle.frame.specs.declared.Reply.{Reply}
+use Rattle.frame.specs.declared.Service.{Service}
+use Rattle.frame.specs.declared.Service.the-variants.{Reset, UserData, Collection}
+use Rattle.frame.specs.declared.Service.the-variants as service
+use Rattle.frame.specs.Controls.{Counts, controlOf}
+use Rattle.frame.specs.Writing.{plain}
+use Rattle.fields.specs.Answers.{identityFound}
+use Rattle.rules.specs.declared.Session.the-variants.{Closed}
+use Rattle.deeds.specs.declared.Waiting.the-variants.{NoReply}
+use Rattle.deeds.specs.declared.Order.the-variants.{NoOrder}
+use Rattle.deeds.specs.declared.Carried.{Carried}
+use Rattle.deeds.specs.Deeds.{isWaiting, carriedOut, nothingPending}
+use Rattle.waiting.specs.declared.Next.{Next}
+use Rattle.waiting.specs.NextReply.{nothingFound, nextOf}
 use Rattle.link.specs.declared.Link.{Link}
-use Rattle.link.specs.declared.Deed.the-variants as deed
+use Rattle.link.specs.declared.Sends.the-variants.{NotReset, Remembered, Status}
 use Rattle.link.specs.declared.Answered.{Answered}
-use Rattle.link.specs.State.{plain, powerOn, afterReset, remembering, inSession, awaiting}
-use Rattle.link.specs.Answering.{linkIn, refusedBy, replied, carried, noted, userData, given, collection, counted, resetBy, statusBy, answered}
-use Rattle.link.proofs.Answering.{before-reset, with-last, afresh-data, afresh-collection}
+use Rattle.link.specs.State.{powerOn, afterReset, afterNew}
+use Rattle.link.specs.Answering.{linkIn, answeredBy, noted, carried, userData, given, collection, answered, replySent}
+use Rattle.link.proofs.Answering.{Fresh, Plain, answered-plain, with-new, answered-unreset, answered-last}
 use Rattle.link.proofs.Link.power_on.Reads as link-power-on
-use Rattle.link.proofs.answer.Reads as answer
-
--- the control octet of the reply
-abbrev control : Answered → ℕ
-control a = controlOf (a .reply .reply .kind)
+use Rattle.link.proofs.Link.answer.Reads as answer
 
 module _ (κs : Lfts 0) (wrong : Link) where
   -- a link that counts as reset at power-on
@@ -57,248 +57,228 @@ module _ (κs : Lfts 0) (wrong : Link) where
   unfolding powerOn
   power-on-remembered other s p = other (ap (λ (l : Link). l .remembered) p)
 
--- of any frame
-module _ (link : Link) (frame : Heard) (image clock : List ℕ) where
-  -- a refusal gives no order and leaves the link
-  abbrev Plain : Answered → Type 0
-  Plain a = (a .number ≡ 0 → ⊥) → (a .order ≡ order.Nothing) × (a .link ≡ link)
+-- the reply that is sent
+abbrev reply : Answered → Reply
+reply a = replySent (a .sends) (a .link)
 
-  -- so it is of functions 3 and 11
-  counted-plain : (address : LinkAddress) (function bit : ℕ) → Plain (counted address function bit link (frame .user) image clock)
-  unfolding counted refusedBy replied userData noted carried collection given
-  counted-plain address function bit =
-      either Plain (not (link .reset)) (λ _ n. (refl, refl))
-      (λ _. either Plain (eqb bit (link .fcb)) (λ _ n. absurd (n refl))
-      (λ _. either Plain (eqb function 3)
-      (λ _. either Plain (isWaiting (link .pending .waiting) || ltb (frame .user .length) 6) (λ _ n. absurd (n refl)) (λ _ n. absurd (n refl)))
-      (λ _. either Plain (nextOf (link .pending) image .found) (λ _ n. absurd (n refl)) (λ _ n. absurd (n refl)))))
+-- its control octet
+abbrev control : Answered → ℕ
+control a = controlOf (reply a .control)
 
-  -- and of every frame
-  refused-plain : Plain (answered link frame image clock)
-  unfolding answered refusedBy resetBy statusBy replied
-  refused-plain =
-      let asked = offered (frame .form) (frame .control) in
-      either Plain (eqb (asked .number) 6) (λ _ n. (refl, refl))
-      (λ _. either Plain (eqb (getD (asked .values) 0 0) 0) (λ _ n. absurd (n refl))
-      (λ _. either Plain (eqb (getD (asked .values) 0 0) 9) (λ _ n. absurd (n refl)) (λ _. counted-plain (linkIn (headFound image)) _ _)))
-
-module _ (κs : Lfts 1) (x : Place) (link : Link) (frame : Heard) (image clock : List ℕ) (wrong : Answered) where
-  -- the frame asks for a function, with its FCB where that counts
-  abbrev Asks : List ℕ → Type 0
-  Asks values = offered (frame .form) (frame .control) ≡ record { number = 0; values = values }
+module _ (κs : Lfts 1) (x : Place) (link : Link) (user : Kept) (image clock : List ℕ) (wrong : Answered) where
+  -- what the call is given
+  abbrev asking : Service → Link × (Service × (Kept × (RefT (List ℕ) × (List ℕ × Unit {0}))))
+  asking service = (link, (service, (user, (lent x image, (clock, tt)))))
 
   -- the link address of the image
   abbrev address : LinkAddress
-  address = linkIn (headFound image)
+  address = linkIn (identityFound image)
 
-  -- a reset refused, whatever the link
-  answer-reset-refused : Asks (0 ∷ []) → (wrong .number ≡ 0 → ⊥)
-      → RuledOut (answer.Post κs) (link, (frame, (lent x image, (clock, tt)))) wrong
-  unfolding answered resetBy replied
-  answer-reset-refused asks other s p = other (ap (λ (a : Answered). a .number) (rw asks at p))
+  -- a reset refused, or answered by a status
+  answer-reset-refused : (wrong .sends ≡ Remembered → ⊥) → RuledOut (answer.Post κs) (asking Reset) wrong
+  unfolding answered answeredBy
+  answer-reset-refused other s p = other (ap (λ (a : Answered). a .sends) p)
 
   -- a session that is not closed by a reset
-  answer-reset-session : Asks (0 ∷ []) → (wrong .link .session ≡ Closed → ⊥)
-      → RuledOut (answer.Post κs) (link, (frame, (lent x image, (clock, tt)))) wrong
-  unfolding answered resetBy replied afterReset
-  answer-reset-session asks other s p = other (ap (λ (a : Answered). a .link .session) (rw asks at p))
+  answer-reset-session : (wrong .link .session ≡ Closed → ⊥) → RuledOut (answer.Post κs) (asking Reset) wrong
+  unfolding answered answeredBy afterReset
+  answer-reset-session other s p = other (ap (λ (a : Answered). a .link .session) p)
 
   -- waiting replies kept by a reset
-  answer-reset-waiting : Asks (0 ∷ []) → isWaiting (wrong .link .pending .waiting) ≡ true
-      → RuledOut (answer.Post κs) (link, (frame, (lent x image, (clock, tt)))) wrong
-  unfolding answered resetBy replied afterReset nothingPending
-  answer-reset-waiting asks waits s p = false≢true (sym (ap (λ (a : Answered). isWaiting (a .link .pending .waiting)) (rw asks at p)) ∙ waits)
+  answer-reset-waiting : isWaiting (wrong .link .pending .waiting) ≡ true → RuledOut (answer.Post κs) (asking Reset) wrong
+  unfolding answered answeredBy afterReset nothingPending
+  answer-reset-waiting waits s p = false≢true (sym (ap (λ (a : Answered). isWaiting (a .link .pending .waiting)) p) ∙ waits)
 
   -- another last FCB than 0 after a reset
-  answer-reset-bit : Asks (0 ∷ []) → (wrong .link .fcb ≡ 0 → ⊥)
-      → RuledOut (answer.Post κs) (link, (frame, (lent x image, (clock, tt)))) wrong
-  unfolding answered resetBy replied afterReset
-  answer-reset-bit asks other s p = other (ap (λ (a : Answered). a .link .fcb) (rw asks at p))
+  answer-reset-bit : (wrong .link .fcb ≡ 0 → ⊥) → RuledOut (answer.Post κs) (asking Reset) wrong
+  unfolding answered answeredBy afterReset
+  answer-reset-bit other s p = other (ap (λ (a : Answered). a .link .fcb) p)
+
+  -- a link that is not reset after a reset
+  answer-reset-unset : wrong .link .reset ≡ false → RuledOut (answer.Post κs) (asking Reset) wrong
+  unfolding answered answeredBy afterReset
+  answer-reset-unset unset s p = false≢true (sym unset ∙ ap (λ (a : Answered). a .link .reset) p)
 
   -- the ACK of a reset not remembered
-  answer-reset-forgotten : Asks (0 ∷ []) → (wrong .link .remembered ≡ plain Ack address → ⊥)
-      → RuledOut (answer.Post κs) (link, (frame, (lent x image, (clock, tt)))) wrong
-  unfolding answered resetBy replied afterReset
-  answer-reset-forgotten asks other s p = other (ap (λ (a : Answered). a .link .remembered) (rw asks at p))
+  answer-reset-forgotten : (wrong .link .remembered ≡ plain Ack address → ⊥) → RuledOut (answer.Post κs) (asking Reset) wrong
+  unfolding answered answeredBy afterReset
+  answer-reset-forgotten other s p = other (ap (λ (a : Answered). a .link .remembered) p)
 
   -- a status that changes the link, whatever the link
-  answer-status-changes : Asks (9 ∷ []) → (wrong .link ≡ link → ⊥)
-      → RuledOut (answer.Post κs) (link, (frame, (lent x image, (clock, tt)))) wrong
-  unfolding answered statusBy replied
-  answer-status-changes asks other s p = other (ap (λ (a : Answered). a .link) (rw asks at p))
+  answer-status-changes : (wrong .link ≡ link → ⊥) → RuledOut (answer.Post κs) (asking service.Status) wrong
+  unfolding answered answeredBy
+  answer-status-changes other s p = other (ap (λ (a : Answered). a .link) p)
 
-  -- a status refused before the first reset, or ever
-  answer-status-refused : Asks (9 ∷ []) → (wrong .number ≡ 0 → ⊥)
-      → RuledOut (answer.Post κs) (link, (frame, (lent x image, (clock, tt)))) wrong
-  unfolding answered statusBy replied
-  answer-status-refused asks other s p = other (ap (λ (a : Answered). a .number) (rw asks at p))
+  -- a status refused, before the first reset too, or answered by the remembered reply
+  answer-status-refused : (wrong .sends ≡ Status address → ⊥) → RuledOut (answer.Post κs) (asking service.Status) wrong
+  unfolding answered answeredBy
+  answer-status-refused other s p = other (ap (λ (a : Answered). a .sends) p)
 
-  -- another number than 6 for a control field that is not offered
-  answer-not-offered : offered (frame .form) (frame .control) .number ≡ 6 → (wrong .number ≡ 6 → ⊥)
-      → RuledOut (answer.Post κs) (link, (frame, (lent x image, (clock, tt)))) wrong
-  unfolding answered refusedBy
-  answer-not-offered six other s p = other (ap (λ (a : Answered). a .number) (rw six at p))
+  module _ (asked : Service) where
+    -- a refusal that the contract allows
+    refused-plain : wrong ≡ answered link asked user image clock → wrong .sends ≡ NotReset → Plain link (answered link asked user image clock)
+    refused-plain p none = answered-plain link user image clock asked (sym (ap (λ (a : Answered). a .sends) p) ∙ none)
 
-  -- an order to the meter with a refusal, whatever the frame
-  answer-refused-order : (wrong .number ≡ 0 → ⊥) → (wrong .order ≡ order.Nothing → ⊥)
-      → RuledOut (answer.Post κs) (link, (frame, (lent x image, (clock, tt)))) wrong
-  answer-refused-order refused other s p =
-      other (ap (λ (a : Answered). a .order) p ∙ refused-plain link frame image clock (λ e. refused (ap (λ (a : Answered). a .number) p ∙ e)) .0)
+    -- an order to the meter with a refusal, whatever is asked
+    answer-refused-order : wrong .sends ≡ NotReset → (wrong .order ≡ NoOrder → ⊥) → RuledOut (answer.Post κs) (asking asked) wrong
+    answer-refused-order none other s p = other (ap (λ (a : Answered). a .order) p ∙ refused-plain p none .order-none)
 
-  -- a refusal that changes the link, whatever the frame
-  answer-refused-link : (wrong .number ≡ 0 → ⊥) → (wrong .link ≡ link → ⊥)
-      → RuledOut (answer.Post κs) (link, (frame, (lent x image, (clock, tt)))) wrong
-  answer-refused-link refused other s p =
-      other (ap (λ (a : Answered). a .link) p ∙ refused-plain link frame image clock (λ e. refused (ap (λ (a : Answered). a .number) p ∙ e)) .1)
+    -- a refusal that changes the link, whatever is asked
+    answer-refused-link : wrong .sends ≡ NotReset → (wrong .link ≡ link → ⊥) → RuledOut (answer.Post κs) (asking asked) wrong
+    answer-refused-link none other s p = other (ap (λ (a : Answered). a .link) p ∙ refused-plain p none .link-kept)
 
-  -- functions 3 and 11, by their FCB
-  module _ (function bit : ℕ) (which : (function ≡ 3) ⊎ (function ≡ 11)) (asks : Asks (function ∷ bit ∷ [])) where
-    -- what they answer is that of the count bit
-    counts : (function ≡ 3) ⊎ (function ≡ 11) → answered link frame image clock ≡ counted address function bit link (frame .user) image clock
-    unfolding answered
-    counts (inl e) = rw (asks, e)
-    counts (inr e) = rw (asks, e)
+    -- functions 3 and 11, by their FCB
+    module _ (bit : ℕ) (counts : Counts asked bit) where
+      -- a reply before the first reset
+      answer-unreset-replied : link .reset ≡ false → (wrong .sends ≡ NotReset → ⊥) → RuledOut (answer.Post κs) (asking asked) wrong
+      unfolding answeredBy
+      answer-unreset-replied unset other s p = other (ap (λ (a : Answered). a .sends) (p ∙ answered-unreset link user image clock counts unset))
 
-    -- refused before the first reset
-    unreset : link .reset ≡ false → answered link frame image clock ≡ refusedBy 7 link
-    unreset unset = counts which ∙ before-reset address function bit link (frame .user) image clock unset
+      -- a link changed before the first reset
+      answer-unreset-link : link .reset ≡ false → (wrong .link ≡ link → ⊥) → RuledOut (answer.Post κs) (asking asked) wrong
+      unfolding answeredBy
+      answer-unreset-link unset other s p = other (ap (λ (a : Answered). a .link) (p ∙ answered-unreset link user image clock counts unset))
 
-    -- repeated with the last FCB
-    repeated : link .reset ≡ true → bit ≡ link .fcb → answered link frame image clock ≡ replied (link .remembered) deed.Nothing link
-    repeated set same = counts which ∙ with-last address function bit link (frame .user) image clock set same
+      -- an order to the meter before the first reset
+      answer-unreset-order : link .reset ≡ false → (wrong .order ≡ NoOrder → ⊥) → RuledOut (answer.Post κs) (asking asked) wrong
+      unfolding answeredBy
+      answer-unreset-order unset other s p = other (ap (λ (a : Answered). a .order) (p ∙ answered-unreset link user image clock counts unset))
 
-    -- another number than 7 before the first reset
-    answer-unreset-number : link .reset ≡ false → (wrong .number ≡ 7 → ⊥)
-        → RuledOut (answer.Post κs) (link, (frame, (lent x image, (clock, tt)))) wrong
-    unfolding refusedBy
-    answer-unreset-number unset other s p = other (ap (λ (a : Answered). a .number) (p ∙ unreset unset))
+      -- an order to the meter with a repeat, the clock set twice
+      answer-repeat-order : link .reset ≡ true → bit ≡ link .fcb → (wrong .order ≡ NoOrder → ⊥) → RuledOut (answer.Post κs) (asking asked) wrong
+      unfolding answeredBy
+      answer-repeat-order set same other s p = other (ap (λ (a : Answered). a .order) (p ∙ answered-last link user image clock counts set same))
 
-    -- a link changed before the first reset
-    answer-unreset-link : link .reset ≡ false → (wrong .link ≡ link → ⊥)
-        → RuledOut (answer.Post κs) (link, (frame, (lent x image, (clock, tt)))) wrong
-    unfolding refusedBy
-    answer-unreset-link unset other s p = other (ap (λ (a : Answered). a .link) (p ∙ unreset unset))
+      -- a repeat that changes the link: session, FCB or what waits
+      answer-repeat-link : link .reset ≡ true → bit ≡ link .fcb → (wrong .link ≡ link → ⊥) → RuledOut (answer.Post κs) (asking asked) wrong
+      unfolding answeredBy
+      answer-repeat-link set same other s p = other (ap (λ (a : Answered). a .link) (p ∙ answered-last link user image clock counts set same))
 
-    -- an order to the meter with a repeat, the clock set twice
-    answer-repeat-order : link .reset ≡ true → bit ≡ link .fcb → (wrong .order ≡ order.Nothing → ⊥)
-        → RuledOut (answer.Post κs) (link, (frame, (lent x image, (clock, tt)))) wrong
-    unfolding replied
-    answer-repeat-order set same other s p = other (ap (λ (a : Answered). a .order) (p ∙ repeated set same))
-
-    -- a repeat that changes the link
-    answer-repeat-link : link .reset ≡ true → bit ≡ link .fcb → (wrong .link ≡ link → ⊥)
-        → RuledOut (answer.Post κs) (link, (frame, (lent x image, (clock, tt)))) wrong
-    unfolding replied
-    answer-repeat-link set same other s p = other (ap (λ (a : Answered). a .link) (p ∙ repeated set same))
-
-    -- a repeat that is answered by another reply than the remembered one
-    answer-repeat-reply : link .reset ≡ true → bit ≡ link .fcb → (wrong .reply ≡ link .remembered → ⊥)
-        → RuledOut (answer.Post κs) (link, (frame, (lent x image, (clock, tt)))) wrong
-    unfolding replied
-    answer-repeat-reply set same other s p = other (ap (λ (a : Answered). a .reply) (p ∙ repeated set same))
-
-    -- a repeat by which something is carried out
-    answer-repeat-deed : link .reset ≡ true → bit ≡ link .fcb → (wrong .deed ≡ deed.Nothing → ⊥)
-        → RuledOut (answer.Post κs) (link, (frame, (lent x image, (clock, tt)))) wrong
-    unfolding replied
-    answer-repeat-deed set same other s p = other (ap (λ (a : Answered). a .deed) (p ∙ repeated set same))
+      -- a repeat that is answered by another reply than the remembered one
+      answer-repeat-reply : link .reset ≡ true → bit ≡ link .fcb → (reply wrong ≡ link .remembered → ⊥) → RuledOut (answer.Post κs) (asking asked) wrong
+      unfolding answeredBy
+      answer-repeat-reply set same other s p = other (ap reply (p ∙ answered-last link user image clock counts set same))
 
   -- with a new FCB, after a reset
-  module _ (bit : ℕ) (set : link .reset ≡ true) (new : bit ≡ link .fcb → ⊥) where
+  module _ (bit : ℕ) (fresh : Fresh link bit) where
     -- user data is answered afresh
-    data-afresh : Asks (3 ∷ bit ∷ []) → answered link frame image clock ≡ userData address bit link (frame .user) image clock
-    data-afresh asks = counts 3 bit (inl refl) asks (inl refl) ∙ afresh-data address 3 bit link (frame .user) image clock set new refl
+    data-afresh : answered link (UserData bit) user image clock ≡ userData address bit link user image clock
+    unfolding answered
+    data-afresh = with-new bit link _ (fresh .is-reset) (fresh .new)
 
-    -- by NACK while a reply waits
-    data-waiting : Asks (3 ∷ bit ∷ []) → isWaiting (link .pending .waiting) ≡ true
-        → answered link frame image clock ≡ noted bit (plain Nack address) link
+    -- by NACK while replies wait or with fewer than 6 octets
+    data-nack : (isWaiting (link .pending .waiting) ≡ true) ⊎ (user .length < 6)
+        → answered link (UserData bit) user image clock ≡ noted bit (plain Nack address) link
     unfolding userData
-    data-waiting asks waits = data-afresh asks ∙ rw waits
-
-    -- by NACK with fewer than 6 user octets
-    data-short : Asks (3 ∷ bit ∷ []) → frame .user .length < 6 → answered link frame image clock ≡ noted bit (plain Nack address) link
-    unfolding userData
-    data-short asks short = data-afresh asks ∙ rw (lt-ltb (frame .user .length) 6 short, or-true (isWaiting (link .pending .waiting)))
+    data-nack (inl waits) = data-afresh ∙ rw waits
+    data-nack (inr short) = data-afresh ∙ rw (lt-ltb (user .length) 6 short, or-true (isWaiting (link .pending .waiting)))
 
     -- what the message does when it is carried out
     abbrev done : Carried
-    done = carriedOut (link .session) image clock (frame .user)
+    done = carriedOut (link .session) image clock user
 
     -- else by ACK, and the message is carried out
-    data-carried : Asks (3 ∷ bit ∷ []) → isWaiting (link .pending .waiting) ≡ false → 6 ≤ frame .user .length
-        → answered link frame image clock ≡ carried (plain Ack address) bit link (frame .user) done
+    data-carried : isWaiting (link .pending .waiting) ≡ false → 6 ≤ user .length
+        → answered link (UserData bit) user image clock ≡ carried address bit link done
     unfolding userData
-    data-carried asks idle long = data-afresh asks ∙ rw (idle, le-ltb (frame .user .length) 6 long)
+    data-carried idle long = data-afresh ∙ rw (idle, le-ltb (user .length) 6 long)
+
+    -- the reply that waits
+    abbrev next : Next
+    next = nextOf (link .pending) image
 
     -- a collection is answered afresh
-    collection-afresh : Asks (11 ∷ bit ∷ []) → answered link frame image clock ≡ collection address bit link image
-    collection-afresh asks =
-        counts 11 bit (inr refl) asks (inr refl) ∙ afresh-collection address 11 bit link (frame .user) image clock set new (λ e. omega arith)
+    collected : answered link (Collection bit) user image clock ≡ given address bit link next
+    unfolding answered collection
+    collected = with-new bit link _ (fresh .is-reset) (fresh .new)
 
-    -- user data taken by ACK while a reply waits
-    answer-data-waiting : Asks (3 ∷ bit ∷ []) → isWaiting (link .pending .waiting) ≡ true → control wrong ≡ 0x00
-        → RuledOut (answer.Post κs) (link, (frame, (lent x image, (clock, tt)))) wrong
-    unfolding noted replied
-    answer-data-waiting asks waits ack s p = omega (arith, ap control (p ∙ data-waiting asks waits))
+    -- a NACK is due
+    module _ (no : (isWaiting (link .pending .waiting) ≡ true) ⊎ (user .length < 6)) where
+      -- user data taken by ACK while replies wait or with fewer than 6 octets
+      answer-nack-taken : control wrong ≡ 0x00 → RuledOut (answer.Post κs) (asking (UserData bit)) wrong
+      unfolding answeredBy noted afterNew
+      answer-nack-taken ack s p = omega (arith, ap control (p ∙ data-nack no))
 
-    -- an order to the meter while a reply waits
-    answer-data-waiting-order : Asks (3 ∷ bit ∷ []) → isWaiting (link .pending .waiting) ≡ true → (wrong .order ≡ order.Nothing → ⊥)
-        → RuledOut (answer.Post κs) (link, (frame, (lent x image, (clock, tt)))) wrong
-    unfolding noted replied
-    answer-data-waiting-order asks waits other s p = other (ap (λ (a : Answered). a .order) (p ∙ data-waiting asks waits))
+      -- an order to the meter with a NACK
+      answer-nack-order : (wrong .order ≡ NoOrder → ⊥) → RuledOut (answer.Post κs) (asking (UserData bit)) wrong
+      unfolding answeredBy noted afterNew
+      answer-nack-order other s p = other (ap (λ (a : Answered). a .order) (p ∙ data-nack no))
 
-    -- fewer than 6 user octets taken by ACK
-    answer-data-short : Asks (3 ∷ bit ∷ []) → frame .user .length < 6 → control wrong ≡ 0x00
-        → RuledOut (answer.Post κs) (link, (frame, (lent x image, (clock, tt)))) wrong
-    unfolding noted replied
-    answer-data-short asks short ack s p = omega (arith, ap control (p ∙ data-short asks short))
+      -- a session that a NACK changes
+      answer-nack-session : (wrong .link .session ≡ link .session → ⊥) → RuledOut (answer.Post κs) (asking (UserData bit)) wrong
+      unfolding answeredBy noted afterNew
+      answer-nack-session other s p = other (ap (λ (a : Answered). a .link .session) (p ∙ data-nack no))
 
-    -- NACK for 6 user octets or more where nothing waits
-    answer-data-nack : Asks (3 ∷ bit ∷ []) → isWaiting (link .pending .waiting) ≡ false → 6 ≤ frame .user .length → control wrong ≡ 0x01
-        → RuledOut (answer.Post κs) (link, (frame, (lent x image, (clock, tt)))) wrong
-    unfolding carried
-    answer-data-nack asks idle long nack s p = omega (arith, ap control (p ∙ data-carried asks idle long))
+      -- waiting replies that a NACK drops
+      answer-nack-waiting : (wrong .link .pending ≡ link .pending → ⊥) → RuledOut (answer.Post κs) (asking (UserData bit)) wrong
+      unfolding answeredBy noted afterNew
+      answer-nack-waiting other s p = other (ap (λ (a : Answered). a .link .pending) (p ∙ data-nack no))
 
-    -- the session of the message that is carried out not taken over
-    answer-data-session : Asks (3 ∷ bit ∷ []) → isWaiting (link .pending .waiting) ≡ false → 6 ≤ frame .user .length
-        → (wrong .link .session ≡ done .session → ⊥)
-        → RuledOut (answer.Post κs) (link, (frame, (lent x image, (clock, tt)))) wrong
-    unfolding carried remembering inSession awaiting
-    answer-data-session asks idle long other s p = other (ap (λ (a : Answered). a .link .session) (p ∙ data-carried asks idle long))
+      -- a NACK after which the new FCB is not the last
+      answer-nack-bit : (wrong .link .fcb ≡ bit → ⊥) → RuledOut (answer.Post κs) (asking (UserData bit)) wrong
+      unfolding answeredBy noted afterNew
+      answer-nack-bit other s p = other (ap (λ (a : Answered). a .link .fcb) (p ∙ data-nack no))
 
-    -- a NACK after which the new FCB is not the last
-    answer-data-bit : Asks (3 ∷ bit ∷ []) → isWaiting (link .pending .waiting) ≡ true → (wrong .link .fcb ≡ bit → ⊥)
-        → RuledOut (answer.Post κs) (link, (frame, (lent x image, (clock, tt)))) wrong
-    unfolding noted replied remembering
-    answer-data-bit asks waits other s p = other (ap (λ (a : Answered). a .link .fcb) (p ∙ data-waiting asks waits))
+      -- a NACK that is not remembered
+      answer-nack-forgotten : (wrong .link .remembered ≡ plain Nack address → ⊥) → RuledOut (answer.Post κs) (asking (UserData bit)) wrong
+      unfolding answeredBy noted afterNew
+      answer-nack-forgotten other s p = other (ap (λ (a : Answered). a .link .remembered) (p ∙ data-nack no))
 
-    -- a NACK that is not remembered
-    answer-data-forgotten : Asks (3 ∷ bit ∷ []) → isWaiting (link .pending .waiting) ≡ true → (wrong .link .remembered ≡ plain Nack address → ⊥)
-        → RuledOut (answer.Post κs) (link, (frame, (lent x image, (clock, tt)))) wrong
-    unfolding noted replied remembering
-    answer-data-forgotten asks waits other s p = other (ap (λ (a : Answered). a .link .remembered) (p ∙ data-waiting asks waits))
+    -- the message is to be carried out
+    module _ (idle : isWaiting (link .pending .waiting) ≡ false) (long : 6 ≤ user .length) where
+      -- NACK for 6 user octets or more where nothing waits
+      answer-data-nack : control wrong ≡ 0x01 → RuledOut (answer.Post κs) (asking (UserData bit)) wrong
+      unfolding carried afterNew
+      answer-data-nack nack s p = omega (arith, ap control (p ∙ data-carried idle long))
+
+      -- the session of the message that is carried out not taken over
+      answer-data-session : (wrong .link .session ≡ done .session → ⊥) → RuledOut (answer.Post κs) (asking (UserData bit)) wrong
+      unfolding carried afterNew
+      answer-data-session other s p = other (ap (λ (a : Answered). a .link .session) (p ∙ data-carried idle long))
+
+      -- other replies waiting than those of the message
+      answer-data-waiting : (wrong .link .pending ≡ done .pending → ⊥) → RuledOut (answer.Post κs) (asking (UserData bit)) wrong
+      unfolding carried afterNew
+      answer-data-waiting other s p = other (ap (λ (a : Answered). a .link .pending) (p ∙ data-carried idle long))
+
+      -- another order to the meter than that of the message
+      answer-data-order : (wrong .order ≡ done .order → ⊥) → RuledOut (answer.Post κs) (asking (UserData bit)) wrong
+      unfolding carried
+      answer-data-order other s p = other (ap (λ (a : Answered). a .order) (p ∙ data-carried idle long))
+
+      -- an ACK after which the new FCB is not the last
+      answer-data-bit : (wrong .link .fcb ≡ bit → ⊥) → RuledOut (answer.Post κs) (asking (UserData bit)) wrong
+      unfolding carried afterNew
+      answer-data-bit other s p = other (ap (λ (a : Answered). a .link .fcb) (p ∙ data-carried idle long))
+
+      -- an ACK that is not remembered
+      answer-data-forgotten : (wrong .link .remembered ≡ plain Ack address → ⊥) → RuledOut (answer.Post κs) (asking (UserData bit)) wrong
+      unfolding carried afterNew
+      answer-data-forgotten other s p = other (ap (λ (a : Answered). a .link .remembered) (p ∙ data-carried idle long))
 
     -- data given instead of 09 where nothing waits
-    answer-collection-nothing : Asks (11 ∷ bit ∷ []) → link .pending .waiting ≡ Nothing → control wrong ≡ 0x08
-        → RuledOut (answer.Post κs) (link, (frame, (lent x image, (clock, tt)))) wrong
-    unfolding collection given noted replied nextOf nothingFound
-    answer-collection-nothing asks idle gives s p = omega (arith, ap control (rw idle at (p ∙ collection-afresh asks)))
+    answer-collection-nothing : link .pending .waiting ≡ NoReply → control wrong ≡ 0x08 → RuledOut (answer.Post κs) (asking (Collection bit)) wrong
+    unfolding given noted answeredBy afterNew nextOf nothingFound
+    answer-collection-nothing idle gives s p = omega (arith, ap control (rw idle at (p ∙ collected)))
 
-    -- 09 where a reply waits
-    answer-collection-found : Asks (11 ∷ bit ∷ []) → nextOf (link .pending) image .found ≡ true → control wrong ≡ 0x09
-        → RuledOut (answer.Post κs) (link, (frame, (lent x image, (clock, tt)))) wrong
-    unfolding collection given noted replied
-    answer-collection-found asks waits none s p = omega (arith, ap control (rw waits at (p ∙ collection-afresh asks)))
+    -- a reply waits
+    module _ (waits : next .found ≡ true) where
+      -- 09 where a reply waits
+      answer-collection-found : control wrong ≡ 0x09 → RuledOut (answer.Post κs) (asking (Collection bit)) wrong
+      unfolding given noted answeredBy afterNew
+      answer-collection-found none s p = omega (arith, ap control (rw waits at (p ∙ collected)))
 
-    -- what waits not advanced when a reply is given
-    answer-collection-kept : Asks (11 ∷ bit ∷ []) → nextOf (link .pending) image .found ≡ true
-        → (wrong .link .pending ≡ nextOf (link .pending) image .pending → ⊥)
-        → RuledOut (answer.Post κs) (link, (frame, (lent x image, (clock, tt)))) wrong
-    unfolding collection given noted replied remembering awaiting
-    answer-collection-kept asks waits other s p = other (ap (λ (a : Answered). a .link .pending) (rw waits at (p ∙ collection-afresh asks)))
+      -- another message given than the next that waits
+      answer-collection-message : (reply wrong .user ≡ next .message → ⊥) → RuledOut (answer.Post κs) (asking (Collection bit)) wrong
+      unfolding given noted answeredBy afterNew
+      answer-collection-message other s p = other (ap (λ (a : Answered). reply a .user) (rw waits at (p ∙ collected)))
 
-    -- an order to the meter with a collection
-    answer-collection-order : Asks (11 ∷ bit ∷ []) → nextOf (link .pending) image .found ≡ true → (wrong .order ≡ order.Nothing → ⊥)
-        → RuledOut (answer.Post κs) (link, (frame, (lent x image, (clock, tt)))) wrong
-    unfolding collection given noted replied
-    answer-collection-order asks waits other s p = other (ap (λ (a : Answered). a .order) (rw waits at (p ∙ collection-afresh asks)))
+      -- what waits not advanced when a reply is given
+      answer-collection-kept : (wrong .link .pending ≡ next .pending → ⊥) → RuledOut (answer.Post κs) (asking (Collection bit)) wrong
+      unfolding given noted answeredBy afterNew
+      answer-collection-kept other s p = other (ap (λ (a : Answered). a .link .pending) (rw waits at (p ∙ collected)))
+
+      -- an order to the meter with a collection
+      answer-collection-order : (wrong .order ≡ NoOrder → ⊥) → RuledOut (answer.Post κs) (asking (Collection bit)) wrong
+      unfolding given noted answeredBy afterNew
+      answer-collection-order other s p = other (ap (λ (a : Answered). a .order) (rw waits at (p ∙ collected)))

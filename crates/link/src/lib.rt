@@ -1,82 +1,71 @@
 // The link and the session: a sound frame for this card is answered.
 ghost use mathlib.Core.Path.{_≡_};
-ghost use Rattle.link.specs.State.{plain, dataReply, powerOn, afterReset, remembering, inSession, awaiting};
-ghost use Rattle.link.specs.Answering.{linkIn, refusedBy, replied, deedOf, carried, noted, userData, given, collection, counted, resetBy, statusBy, answered};
+ghost use Rattle.link.specs.State.{dataReply, powerOn, afterReset, afterNew};
+ghost use Rattle.link.specs.Answering.{linkIn, answeredBy, noted, carried, userData, given, collection, counted, answered};
 use address::LinkAddress;
-use address::PointAddress;
-use carrying::Carried;
-use carrying::Order;
-use carrying::Pending;
-use frame::Kind;
+use deeds::Carried;
+use deeds::Order;
+use deeds::Pending;
+use fields::IdentityFound;
+use frame::Control;
 use frame::Reply;
 use frame::Service;
-use giving::Next;
-use line::Heard;
-use message::Header;
-use message::Message;
-use parts::HeadFound;
-use request::Rule;
-use request::Session;
-
-// A reply that is meant, and the link address that it carries. The octets are written from it, also when it is sent again.
-pub struct Meant {
-    pub reply: Reply,
-    pub link: LinkAddress,
-}
+use octets::Kept;
+use rules::Session;
+use waiting::Next;
 
 // Whether a reset was answered since power-on, the last FCB, the session, the remembered reply, what waits.
 pub struct Link {
     pub reset: bool,
     pub fcb: u8,
     pub session: Session,
-    pub remembered: Meant,
+    pub remembered: Reply,
     pub pending: Pending,
 }
 
-// What was carried out.
-pub enum Deed {
-    Nothing,
-    Reset,
-    PasswordRight(PointAddress),
-    PasswordWrong(PointAddress),
-    SessionClosed,
-    Accepted,
+// What is sent: nothing, before the first reset; the remembered reply, be it new or not; the status, with the link address that it carries.
+pub enum Sends {
+    NotReset,
+    Remembered,
+    Status(LinkAddress),
 }
 
-// Document 01's number; with 0 the reply, an order to the meter and its time octets, and what was carried out; the link after it.
+// What is sent, an order to the meter with its time octets, and the link after it.
 pub struct Answered {
-    pub number: u8,
-    pub reply: Meant,
+    pub sends: Sends,
     pub order: Order,
     pub time: [u8; 10],
-    pub deed: Deed,
     pub link: Link,
 }
 
-fn plain(kind: Kind, address: LinkAddress) -> Meant
-    ensures { λ r. ⌜ r ≡ plain kind address ⌝ }
+fn data_reply(message: Kept, address: LinkAddress) -> Reply
+    ensures { λ r. ⌜ r ≡ dataReply message address ⌝ }
 {
-    Meant {
-        reply: Reply {
-            kind,
-            user: [0; 252],
-            users: 0,
-        },
+    Reply {
+        control: Control::Data,
         link: address,
+        user: message,
     }
 }
 
-fn data_reply(message: Message, address: LinkAddress) -> Meant
-    ensures { λ r. ⌜ r ≡ dataReply message address ⌝ }
+fn link_in(found: IdentityFound) -> LinkAddress
+    ensures { λ r. ⌜ r ≡ linkIn found ⌝ }
 {
-    let user = message.octets;
-    Meant {
-        reply: Reply {
-            kind: Kind::Data,
-            user,
-            users: message.length,
-        },
-        link: address,
+    match found {
+        IdentityFound::Is(identity) => identity.link,
+        IdentityFound::Nothing => LinkAddress(0),
+    }
+}
+
+// Without an order to the meter.
+fn answered_by(sends: Sends, link: Link) -> Answered
+    ensures { λ r. ⌜ r ≡ answeredBy sends link ⌝ }
+{
+    Answered {
+        sends,
+        order: Order::NoOrder,
+        time: [0; 10],
+        link,
     }
 }
 
@@ -89,13 +78,13 @@ impl Link {
             reset: false,
             fcb: 0,
             session: Session::Closed,
-            remembered: plain(Kind::Ack, LinkAddress(0)),
+            remembered: Reply::plain(Control::Ack, LinkAddress(0)),
             pending: Pending::new(),
         }
     }
 
-    fn after_reset(self, reply: Meant) -> Link
-        ensures { λ r. ⌜ r ≡ afterReset reply self ⌝ }
+    fn after_reset(reply: Reply) -> Link
+        ensures { λ r. ⌜ r ≡ afterReset reply ⌝ }
     {
         Link {
             reset: true,
@@ -106,11 +95,9 @@ impl Link {
         }
     }
 
-    fn remembering(self, bit: u8, reply: Meant) -> Link
-        ensures { λ r. ⌜ r ≡ remembering bit reply self ⌝ }
+    fn after_new(self, bit: u8, reply: Reply, session: Session, pending: Pending) -> Link
+        ensures { λ r. ⌜ r ≡ afterNew bit reply session pending self ⌝ }
     {
-        let session = self.session;
-        let pending = self.pending;
         Link {
             reset: self.reset,
             fcb: bit,
@@ -120,221 +107,130 @@ impl Link {
         }
     }
 
-    fn in_session(self, session: Session) -> Link
-        ensures { λ r. ⌜ r ≡ inSession session self ⌝ }
-    {
-        let remembered = self.remembered;
-        let pending = self.pending;
-        Link {
-            reset: self.reset,
-            fcb: self.fcb,
-            session,
-            remembered,
-            pending,
-        }
-    }
-
-    fn awaiting(self, pending: Pending) -> Link
-        ensures { λ r. ⌜ r ≡ awaiting pending self ⌝ }
+    // A reply that becomes the remembered one, with nothing carried out.
+    fn noted(self, bit: u8, reply: Reply) -> Answered
+        ensures { λ r. ⌜ r ≡ noted bit reply self ⌝ }
     {
         let session = self.session;
-        let remembered = self.remembered;
-        Link {
-            reset: self.reset,
-            fcb: self.fcb,
-            session,
-            remembered,
-            pending,
+        let pending = self.pending;
+        answered_by(
+            Sends::Remembered,
+            self.after_new(bit, reply, session, pending),
+        )
+    }
+
+    // ACK, and the message is carried out.
+    fn carried(self, address: LinkAddress, bit: u8, done: Carried) -> Answered
+        ensures { λ r. ⌜ r ≡ carried address bit self done ⌝ }
+    {
+        let order = done.order;
+        let time = done.time;
+        let session = done.session;
+        let pending = done.pending;
+        Answered {
+            sends: Sends::Remembered,
+            order,
+            time,
+            link: self.after_new(bit, Reply::plain(Control::Ack, address), session, pending),
         }
     }
-}
 
-fn link_in(found: HeadFound) -> LinkAddress
-    ensures { λ r. ⌜ r ≡ linkIn found ⌝ }
-{
-    match found {
-        HeadFound::Is(head) => head.link,
-        HeadFound::Nothing => LinkAddress(0),
-    }
-}
-
-fn refused_by(number: u8, link: Link) -> Answered
-    ensures { λ r. ⌜ r ≡ refusedBy number link ⌝ }
-{
-    Answered {
-        number,
-        reply: plain(Kind::Ack, LinkAddress(0)),
-        order: Order::Nothing,
-        time: [0; 10],
-        deed: Deed::Nothing,
-        link,
-    }
-}
-
-fn replied(reply: Meant, deed: Deed, link: Link) -> Answered
-    ensures { λ r. ⌜ r ≡ replied reply deed link ⌝ }
-{
-    Answered {
-        number: 0,
-        reply,
-        order: Order::Nothing,
-        time: [0; 10],
-        deed,
-        link,
-    }
-}
-
-fn deed_of(rule: Rule, kind: u8, point: PointAddress) -> Deed
-    ensures { λ r. ⌜ r ≡ deedOf rule kind point ⌝ }
-{
-    if carrying::is_accepted(rule) {
-        if kind == 183 {
-            return Deed::PasswordRight(point);
+    fn user_data(
+        self,
+        address: LinkAddress,
+        bit: u8,
+        request: Kept,
+        image: &[u8],
+        clock: [u8; 7],
+    ) -> Answered
+        ensures { λ r. ⌜ r ≡ userData address bit self request (now (image .entry)) clock ⌝ }
+    {
+        let pending = self.pending;
+        let session = self.session;
+        if pending.is_waiting() {
+            return self.noted(bit, Reply::plain(Control::Nack, address));
         }
-        if kind == 187 {
-            return Deed::SessionClosed;
+        if request.length < 6 {
+            return self.noted(bit, Reply::plain(Control::Nack, address));
         }
-        return Deed::Accepted;
+        self.carried(
+            address,
+            bit,
+            deeds::carry_out(session, image, clock, request),
+        )
     }
-    if rule.pn() {
-        if kind == 183 {
-            return Deed::PasswordWrong(point);
+
+    fn given(self, address: LinkAddress, bit: u8, next: Next) -> Answered
+        ensures { λ r. ⌜ r ≡ given address bit self next ⌝ }
+    {
+        let found = next.found;
+        let message = next.message;
+        let pending = next.pending;
+        let session = self.session;
+        if found {
+            return answered_by(
+                Sends::Remembered,
+                self.after_new(bit, data_reply(message, address), session, pending),
+            );
         }
-        return Deed::Nothing;
+        self.noted(bit, Reply::plain(Control::NothingToGive, address))
     }
-    Deed::Nothing
-}
 
-// ACK, and the message is carried out.
-fn carried(ack: Meant, bit: u8, link: Link, request: Message, done: Carried) -> Answered
-    ensures { λ r. ⌜ r ≡ carried ack bit link request done ⌝ }
-{
-    let octets = request.octets;
-    let h = Header::read(octets::part(&octets, 0, request.length as usize));
-    let point = h.point;
-    let rule = done.rule;
-    let order = done.order;
-    let time = done.time;
-    let session = done.session;
-    let pending = done.pending;
-    Answered {
-        number: 0,
-        reply: ack,
-        order,
-        time,
-        deed: deed_of(rule, h.kind, point),
-        link: link.remembering(bit, ack)
-            .in_session(session)
-            .awaiting(pending),
+    fn collection(self, address: LinkAddress, bit: u8, image: &[u8]) -> Answered
+        ensures { λ r. ⌜ r ≡ collection address bit self (now (image .entry)) ⌝ }
+    {
+        let pending = self.pending;
+        self.given(address, bit, waiting::next_reply(pending, image))
     }
-}
 
-// A reply that becomes the remembered one, with nothing carried out.
-fn noted(bit: u8, reply: Meant, link: Link) -> Answered
-    ensures { λ r. ⌜ r ≡ noted bit reply link ⌝ }
-{
-    replied(reply, Deed::Nothing, link.remembering(bit, reply))
-}
-
-fn user_data(
-    address: LinkAddress,
-    bit: u8,
-    link: Link,
-    request: Message,
-    image: &[u8],
-    clock: [u8; 7],
-) -> Answered
-    ensures { λ r. ⌜ r ≡ userData address bit link request (now (image .entry)) clock ⌝ }
-{
-    let pending = link.pending;
-    let session = link.session;
-    if pending.is_waiting() {
-        return noted(bit, plain(Kind::Nack, address), link);
-    }
-    if request.length < 6 {
-        return noted(bit, plain(Kind::Nack, address), link);
-    }
-    carried(
-        plain(Kind::Ack, address),
-        bit,
-        link,
-        request,
-        carrying::carry_out(session, image, clock, request),
-    )
-}
-
-fn given(address: LinkAddress, bit: u8, link: Link, next: Next) -> Answered
-    ensures { λ r. ⌜ r ≡ given address bit link next ⌝ }
-{
-    let found = next.found;
-    let message = next.message;
-    let pending = next.pending;
-    if found {
-        return noted(bit, data_reply(message, address), link.awaiting(pending));
-    }
-    noted(bit, plain(Kind::Nothing, address), link)
-}
-
-fn collection(address: LinkAddress, bit: u8, link: Link, image: &[u8]) -> Answered
-    ensures { λ r. ⌜ r ≡ collection address bit link (now (image .entry)) ⌝ }
-{
-    let pending = link.pending;
-    given(address, bit, link, giving::next_reply(pending, image))
-}
-
-// Functions 3 and 11.
-fn counted(
-    address: LinkAddress,
-    function: u8,
-    bit: u8,
-    link: Link,
-    request: Message,
-    image: &[u8],
-    clock: [u8; 7],
-) -> Answered
-    ensures { λ r. ⌜ r ≡ counted address function bit link request (now (image .entry)) clock ⌝ }
-{
-    let reset = link.reset;
-    let last = link.fcb;
-    let remembered = link.remembered;
-    if reset {
-        if bit == last {
-            return replied(remembered, Deed::Nothing, link);
+    // User data by its FCB: the message is looked at only where it is new.
+    fn counted_data(
+        self,
+        address: LinkAddress,
+        bit: u8,
+        request: Kept,
+        image: &[u8],
+        clock: [u8; 7],
+    ) -> Answered
+        ensures { λ r. ⌜ r ≡ counted bit self (userData address bit self request (now (image .entry)) clock) ⌝ }
+    {
+        let reset = self.reset;
+        if reset {
+            if bit == self.fcb {
+                return answered_by(Sends::Remembered, self);
+            }
+            return self.user_data(address, bit, request, image, clock);
         }
-        if function == 3 {
-            return user_data(address, bit, link, request, image, clock);
-        }
-        return collection(address, bit, link, image);
+        answered_by(Sends::NotReset, self)
     }
-    refused_by(7, link)
-}
 
-// A reset is answered by ACK, which is remembered.
-fn reset_by(address: LinkAddress, link: Link) -> Answered
-    ensures { λ r. ⌜ r ≡ resetBy address link ⌝ }
-{
-    let ack = plain(Kind::Ack, address);
-    replied(ack, Deed::Reset, link.after_reset(ack))
-}
+    // And a collection.
+    fn counted_collection(self, address: LinkAddress, bit: u8, image: &[u8]) -> Answered
+        ensures { λ r. ⌜ r ≡ counted bit self (collection address bit self (now (image .entry))) ⌝ }
+    {
+        let reset = self.reset;
+        if reset {
+            if bit == self.fcb {
+                return answered_by(Sends::Remembered, self);
+            }
+            return self.collection(address, bit, image);
+        }
+        answered_by(Sends::NotReset, self)
+    }
 
-fn status_by(address: LinkAddress, link: Link) -> Answered
-    ensures { λ r. ⌜ r ≡ statusBy address link ⌝ }
-{
-    replied(plain(Kind::Status, address), Deed::Nothing, link)
-}
-
-// A frame that is for this card is answered. A control field that is not offered is refused here too, so that any frame may be given.
-pub fn answer(link: Link, frame: Heard, image: &[u8], clock: [u8; 7]) -> Answered
-    ensures { λ r. ⌜ r ≡ answered link frame (now (image .entry)) clock ⌝ }
-{
-    let form = frame.form;
-    let request = frame.user;
-    let address = link_in(parts::head_of(image));
-    match frame::service_of(form, frame.control) {
-        Service::NotOffered => refused_by(6, link),
-        Service::Reset => reset_by(address, link),
-        Service::UserData(bit) => counted(address, 3, bit, link, request, image, clock),
-        Service::Status => status_by(address, link),
-        Service::Collection(bit) => counted(address, 11, bit, link, request, image, clock),
+    // A frame that is for this card is answered.
+    pub fn answer(self, service: Service, user: Kept, image: &[u8], clock: [u8; 7]) -> Answered
+        ensures { λ r. ⌜ r ≡ answered self service user (now (image .entry)) clock ⌝ }
+    {
+        let address = link_in(fields::identity_of(image));
+        match service {
+            Service::Reset => answered_by(
+                Sends::Remembered,
+                Link::after_reset(Reply::plain(Control::Ack, address)),
+            ),
+            Service::UserData(bit) => self.counted_data(address, bit, user, image, clock),
+            Service::Status => answered_by(Sends::Status(address), self),
+            Service::Collection(bit) => self.counted_collection(address, bit, image),
+        }
     }
 }

@@ -1,6 +1,6 @@
 pub mod Table
-pub mod Head
+pub mod Headers
+pub mod Requests
 pub mod Mirror
-pub mod Kept
 mod Determined
 mod RuledOut

@@ -1,4 +1,4 @@
-pub mod Head
+pub mod Headers
+pub mod Requests
 pub mod Table
 pub mod Mirror
-pub mod Kept

@@ -1,36 +1,64 @@
-// Messages: octets that are kept, the header, the table of requests, mirrors.
+// Messages: the header, a request read once, the table of requests, mirrors.
 use address::PointAddress;
-ghost use Prim.Native.Nat.{_+_, _%_, _≤_};
-ghost use mathlib.Core.List.{[]};
+use label::LabelA;
+use label::LabelB;
+use octets::Kept;
+ghost use Prim.Native.Nat.{_%_, _≤_};
 ghost use mathlib.Core.Path.{_≡_};
-ghost use lib.ListN.{length};
-ghost use Rattle.octets.specs.Over.{over};
-ghost use Rattle.message.specs.Head.{tOf, causeOctet, headerOf, headerOctets};
+ghost use Rattle.message.specs.Headers.{tOf, causeOctet, headerOf, headerOctets};
+ghost use Rattle.message.specs.Requests.{asksReadings, labelsFrom, requestOf};
 ghost use Rattle.message.specs.Table.{table, rowIn};
-ghost use Rattle.message.specs.Mirror.{mirror, pnBit};
-ghost use Rattle.message.specs.Kept.{messageOf, added, mirrorOf};
+ghost use Rattle.message.specs.Mirror.{mirror, pnBit, mirrorOf};
 
 // What the first six octets of a message say.
 pub struct Header {
-    pub kind: u8,
+    pub type_id: u8,
     pub structure: u8,
     pub cause: u8,
     pub point: PointAddress,
-    pub record: u8,
+    pub record_address: u8,
 }
 
-// A request that is offered: its type, N, how many octets it has, its cause.
+// A request, read once from its octets. What is not there counts as 0.
+pub struct Request {
+    pub header: Header,
+    pub octets: usize,
+    pub first_object: u8,
+    pub last_object: u8,
+    pub first: LabelA,
+    pub last: LabelA,
+    pub time: LabelB,
+    pub password: u32,
+}
+
+// What a message does: nothing, since a rule refuses it; a wrong password closes the session; and the table's last column.
+pub enum Deed {
+    Refused,
+    ShutOut,
+    Opens,
+    Closes,
+    Gives71,
+    Gives72,
+    Gives131,
+    GivesData,
+    SetsClock,
+    SetsDates,
+}
+
+// The record addresses of a request: one alone, or those of events.
+pub enum Addresses {
+    Only(u8),
+    Events,
+}
+
+// A request that is offered: its type, N, how many octets it has, its cause, its record addresses, what it does when it is accepted.
 pub struct Row {
-    pub kind: u8,
+    pub type_id: u8,
     pub count: u8,
     pub octets: u8,
     pub cause: u8,
-}
-
-// A request or a reply: the first so many of its octets.
-pub struct Message {
-    pub octets: [u8; 252],
-    pub length: u8,
+    pub addresses: Addresses,
+    pub deed: Deed,
 }
 
 pub enum RowFound {
@@ -40,81 +68,145 @@ pub enum RowFound {
 
 const TABLE: [Row; 10] = [
     Row {
-        kind: 100,
+        type_id: 100,
         count: 0,
         octets: 6,
         cause: 5,
+        addresses: Addresses::Only(0),
+        deed: Deed::Gives71,
     },
     Row {
-        kind: 102,
+        type_id: 102,
         count: 0,
         octets: 16,
         cause: 6,
+        addresses: Addresses::Events,
+        deed: Deed::GivesData,
     },
     Row {
-        kind: 103,
+        type_id: 103,
         count: 0,
         octets: 6,
         cause: 5,
+        addresses: Addresses::Only(0),
+        deed: Deed::Gives72,
     },
     Row {
-        kind: 122,
+        type_id: 122,
         count: 1,
         octets: 18,
         cause: 6,
+        addresses: Addresses::Only(21),
+        deed: Deed::GivesData,
     },
     Row {
-        kind: 123,
+        type_id: 123,
         count: 1,
         octets: 18,
         cause: 6,
+        addresses: Addresses::Only(11),
+        deed: Deed::GivesData,
     },
     Row {
-        kind: 181,
+        type_id: 181,
         count: 1,
         octets: 13,
         cause: 6,
+        addresses: Addresses::Only(0),
+        deed: Deed::SetsClock,
     },
     Row {
-        kind: 183,
+        type_id: 183,
         count: 1,
         octets: 10,
         cause: 6,
+        addresses: Addresses::Only(0),
+        deed: Deed::Opens,
     },
     Row {
-        kind: 185,
+        type_id: 185,
         count: 1,
         octets: 6,
         cause: 5,
+        addresses: Addresses::Only(0),
+        deed: Deed::Gives131,
     },
     Row {
-        kind: 186,
+        type_id: 186,
         count: 1,
         octets: 16,
         cause: 6,
+        addresses: Addresses::Only(0),
+        deed: Deed::SetsDates,
     },
     Row {
-        kind: 187,
+        type_id: 187,
         count: 0,
         octets: 6,
         cause: 6,
+        addresses: Addresses::Only(0),
+        deed: Deed::Closes,
     },
 ];
 
 // The row of a type.
-pub fn row_of(kind: u8) -> RowFound
-    ensures { λ r. ⌜ r ≡ rowIn table kind ⌝ }
+pub fn row_of(type_id: u8) -> RowFound
+    ensures { λ r. ⌜ r ≡ rowIn table «type_id» ⌝ }
 {
     let rows = TABLE;
     let mut i = 0;
     while i < 10 {
         let row = rows[i];
-        if row.kind == kind {
+        if row.type_id == type_id {
             return RowFound::Is(row);
         }
         i += 1;
     }
     RowFound::Nothing
+}
+
+// 122 and 123 ask for readings.
+fn asks_readings(type_id: u8) -> bool
+    ensures { λ r. ⌜ r ≡ asksReadings «type_id» ⌝ }
+{
+    if type_id == 122 {
+        return true;
+    }
+    type_id == 123
+}
+
+// Where the labels a stand: of a request for readings behind its two objects, of any other directly behind the header.
+fn labels_from(type_id: u8) -> usize
+    ensures { λ r. ⌜ (r ≡ labelsFrom «type_id») × (r ≤ 8) ⌝ }
+{
+    if asks_readings(type_id) {
+        return 8;
+    }
+    6
+}
+
+impl Request {
+    pub fn read(m: &[u8]) -> Request
+        ensures { λ r. ⌜ r ≡ requestOf (now (m .entry)) ⌝ }
+    {
+        let header = Header::read(m);
+        let labels = labels_from(header.type_id);
+        Request {
+            header,
+            octets: m.len(),
+            first_object: octets::octet_at(m, 6),
+            last_object: octets::octet_at(m, 7),
+            first: LabelA::read(octets::part(m, labels, 5)),
+            last: LabelA::read(octets::part(m, labels + 5, 5)),
+            time: LabelB::read(octets::part(m, 6, 7)),
+            password: octets::low_first_4(
+                octets::octet_at(m, 6),
+                octets::octet_at(m, 7),
+                octets::octet_at(m, 8),
+                octets::octet_at(m, 9),
+            ),
+        }
+    }
 }
 
 impl Header {
@@ -123,14 +215,14 @@ impl Header {
         ensures { λ r. ⌜ r ≡ headerOf (now (m .entry)) ⌝ }
     {
         Header {
-            kind: octets::octet_at(m, 0),
+            type_id: octets::octet_at(m, 0),
             structure: octets::octet_at(m, 1),
             cause: octets::octet_at(m, 2),
             point: PointAddress(octets::low_first_2(
                 octets::octet_at(m, 3),
                 octets::octet_at(m, 4),
             )),
-            record: octets::octet_at(m, 5),
+            record_address: octets::octet_at(m, 5),
         }
     }
 
@@ -139,66 +231,28 @@ impl Header {
     {
         let point = octets::low_octets_2(self.point.0);
         [
-            self.kind,
+            self.type_id,
             self.structure,
             self.cause,
             point[0],
             point[1],
-            self.record,
+            self.record_address,
         ]
     }
 }
 
-impl Message {
-    pub fn new() -> Message
-        ensures { λ r. ⌜ r ≡ messageOf [] ⌝ }
-    {
-        Message {
-            octets: [0; 252],
-            length: 0,
-        }
-    }
-
-    // The message with more octets behind; as it was, where they do not fit.
-    pub fn with(self, top: &[u8]) -> Message
-        ensures { λ r. ⌜ r ≡ added self (now (top .entry)) ⌝ }
-    {
-        let length = self.length as usize;
-        if 252 < length {
-            return self;
-        }
-        if 252 - length < top.len() {
-            return self;
-        }
-        let octets = self.octets;
-        Message {
-            octets: written(octets, length, top),
-            length: (length + top.len()) as u8,
-        }
-    }
-
-    // The request with another cause and P/N; T is kept.
-    pub fn mirrored(self, pn: bool, cause: u8) -> Message
-        ensures { λ r. ⌜ r ≡ mirrorOf self (pnBit pn) (cause % 64) ⌝ }
-    {
-        let octets = self.octets;
-        Message {
-            octets: mirrored(octets, pn, cause),
-            length: self.length,
-        }
-    }
-}
-
-fn written(octets: [u8; 252], at: usize, top: &[u8]) -> [u8; 252]
-    requires { ⌜ at + length (now top) ≤ 252 ⌝ }
-    ensures { λ r. ⌜ r ≡ over octets at (now (top .entry)) ⌝ }
+// The request with another cause and P/N; T is kept.
+pub fn mirrored(request: Kept, pn: bool, cause: u8) -> Kept
+    ensures { λ r. ⌜ r ≡ mirrorOf request (pnBit pn) (cause % 64) ⌝ }
 {
-    let mut all = octets;
-    octets::put(&mut all, at, top);
-    all
+    let octets = request.octets;
+    Kept {
+        octets: with_cause(octets, pn, cause),
+        length: request.length,
+    }
 }
 
-fn mirrored(request: [u8; 252], pn: bool, cause: u8) -> [u8; 252]
+fn with_cause(request: [u8; 252], pn: bool, cause: u8) -> [u8; 252]
     ensures { λ r. ⌜ r ≡ mirror request (pnBit pn) (cause % 64) ⌝ }
 {
     let mut m = request;

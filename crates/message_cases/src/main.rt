@@ -9,13 +9,13 @@
 ghost use Prim.Native.Nat.{_≤_};
 ghost use lib.ListN.{length};
 use address::PointAddress;
-use carrying::Carried;
-use carrying::Order;
-use carrying::Pending;
-use carrying::Waiting;
-use message::Message;
-use request::Rule;
-use request::Session;
+use deeds::Carried;
+use deeds::Order;
+use deeds::Pending;
+use deeds::Waiting;
+use octets::Kept;
+use rules::Rule;
+use rules::Session;
 
 // What the requests meet: the image lent, the clock, the session, what waits. A line may begin at any of the first 4,096 octets of the image.
 struct Bench {
@@ -28,7 +28,7 @@ struct Bench {
 
 // The octets of a line so far, and the first digit of one that lacks its second; 16 is none.
 struct Reader {
-    read: Message,
+    read: Kept,
     high: u8,
 }
 
@@ -82,9 +82,9 @@ impl Reader {
 }
 
 // The octets that a line has behind its letter.
-fn octets_in(line: &[u8]) -> Message {
+fn octets_in(line: &[u8]) -> Kept {
     let mut reader = Reader {
-        read: Message::new(),
+        read: Kept::new(),
         high: 16,
     };
     let mut i = 1;
@@ -185,12 +185,12 @@ fn session(session: Session) {
 
 fn order(order: Order, time: [u8; 10]) {
     match order {
-        Order::Nothing => text(b" -"),
-        Order::Clock => {
+        Order::NoOrder => text(b" -"),
+        Order::SetClock => {
             text(b" clock");
             pairs(&time);
         }
-        Order::Dates => {
+        Order::SetDates => {
             text(b" dates");
             pairs(&time);
         }
@@ -199,20 +199,20 @@ fn order(order: Order, time: [u8; 10]) {
 
 fn waiting(waiting: Waiting) {
     match waiting {
-        Waiting::Nothing => text(b" -"),
+        Waiting::NoReply => text(b" -"),
         Waiting::Mirror(cause) => {
             text(b" mirror");
             number(cause as u64);
         }
         Waiting::Denied => text(b" denied"),
         Waiting::Begin => text(b" begin"),
-        Waiting::Given(before) => {
+        Waiting::More(before) => {
             text(b" given");
             number(before as u64);
         }
-        Waiting::Identity => text(b" identity"),
-        Waiting::Clock => text(b" clock"),
-        Waiting::Dates => text(b" dates"),
+        Waiting::Type71 => text(b" identity"),
+        Waiting::Type72 => text(b" clock"),
+        Waiting::Type131 => text(b" dates"),
     }
 }
 
@@ -232,7 +232,7 @@ fn told(carried: Carried) {
     text(b"\n");
 }
 
-fn replied(found: bool, message: Message) {
+fn replied(found: bool, message: Kept) {
     let octets = message.octets;
     if found {
         spaced(octets::part(&octets, 0, message.length as usize));
@@ -243,21 +243,21 @@ fn replied(found: bool, message: Message) {
 }
 
 // An image with octets put in from a place on.
-fn written(image: [u8; 4352], at: usize, top: Message) -> [u8; 4352] {
+fn written(image: [u8; 4352], at: usize, top: Kept) -> [u8; 4352] {
     let octets = top.octets;
     let mut all = image;
     octets::put(&mut all, at, octets::part(&octets, 0, top.length as usize));
     all
 }
 
-fn clock_of(m: Message) -> [u8; 7] {
+fn clock_of(m: Kept) -> [u8; 7] {
     let octets = m.octets;
     let mut clock = [0; 7];
     octets::put(&mut clock, 0, octets::part(&octets, 0, 7));
     clock
 }
 
-fn session_of(m: Message) -> Session {
+fn session_of(m: Kept) -> Session {
     let octets = m.octets;
     if m.length == 0 {
         return Session::Closed;
@@ -280,7 +280,7 @@ impl Bench {
     }
 
     // The image goes on with these octets from a place.
-    fn lent(self, from: usize, top: Message) -> Bench {
+    fn lent(self, from: usize, top: Kept) -> Bench {
         let image = self.image;
         let clock = self.clock;
         let session = self.session;
@@ -328,12 +328,12 @@ impl Bench {
     }
 
     // Carries a message out and prints what it does.
-    fn carried(self, request: Message) -> Bench {
+    fn carried(self, request: Kept) -> Bench {
         let image = self.image;
         let lent = octets::part(&image, 0, self.length);
         let before = self.session;
         let clock = self.clock;
-        let carried = carrying::carry_out(before, lent, clock, request);
+        let carried = deeds::carry_out(before, lent, clock, request);
         let after = carried.session;
         let pending = carried.pending;
         told(carried);
@@ -346,7 +346,7 @@ impl Bench {
         let lent = octets::part(&image, 0, self.length);
         let session = self.session;
         let pending = self.pending;
-        let next = giving::next_reply(pending, lent);
+        let next = waiting::next_reply(pending, lent);
         let message = next.message;
         let rest = next.pending;
         replied(next.found, message);

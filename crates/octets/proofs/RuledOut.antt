@@ -8,12 +8,14 @@ use native.Mathlib.Omega.{arith}
 use contract.Lifetimes.{Lfts}
 use denote.Ref.{now}
 use lib.IntN.{pos, negsuc}
-use lib.ListN.{length, getD, List·getD-eq-default}
+use lib.ListN.{length, getD, replicate, List·getD-eq-default}
 use borrow.Author.Tests.{lt-ltb, le-leb, lt-leb}
 use Rattle.octets.specs.Numbers.{lowFirst, highFirst, lowOctets}
 use Rattle.octets.specs.Values.{signed as signedOf, unsigned as unsignedOf}
 use Rattle.octets.specs.Sum.{octetSum, checksum as checksumOf}
 use Rattle.octets.specs.Over.{over, fitsAt}
+use Rattle.octets.specs.declared.Kept.{Kept}
+use Rattle.octets.specs.Keeping.{keptOf, added}
 use Rattle.octets.proofs.Outcome.{RuledOut, RuledOutWith, Place, lent, never}
 use Rattle.octets.proofs.low_first_2.Reads as low-first-2
 use Rattle.octets.proofs.high_first_2.Reads as high-first-2
@@ -27,6 +29,8 @@ use Rattle.octets.proofs.checksum.Reads as checksum
 use Rattle.octets.proofs.octet_at.Reads as octet-at
 use Rattle.octets.proofs.part.Reads as part
 use Rattle.octets.proofs.put.Reads as put
+use Rattle.octets.proofs.Kept.new.Reads as kept-new
+use Rattle.octets.proofs.Kept.with.Reads as kept-with
 
 module _ (κs : Lfts 0) where
   -- the octets swapped, whenever they differ
@@ -173,3 +177,36 @@ module _ (x y z : Place) where
       → RuledOutWith (λ s. now (s .0)) (put.Post κs) (lent x (a ∷ b ∷ []), (1, (lent y (c ∷ []), tt))) true (c ∷ b ∷ [])
   unfolding over fitsAt
   put-place κs a b c n s e p = n (cc)
+
+-- octets that are kept
+abbrev kept : List ℕ → ℕ → Kept
+kept octets length = record { octets = octets; length = length }
+
+module _ (κs : Lfts 0) where
+  -- nothing kept that counts an octet, whatever octets it has
+  kept-new-count : (octets : List ℕ) → RuledOut (kept-new.Post κs) tt (kept octets 1)
+  unfolding keptOf
+  kept-new-count octets s p = omega (arith, ap (λ (m : Kept). m .length) p)
+
+  -- nothing kept with ones for zeros
+  kept-new-ones : RuledOut (kept-new.Post κs) tt (kept (replicate 252 1) 0)
+  unfolding keptOf over
+  kept-new-ones s p = omega (arith, ap (λ (m : Kept). getD (m .octets) 0 0) p)
+
+module _ (κs : Lfts 1) (x : Place) (octets : List ℕ) where
+  -- a 253rd octet put behind 252, whatever octets these are
+  kept-with-room : (more : List ℕ) (octet : ℕ) → RuledOut (kept-with.Post κs) (kept octets 252, (lent x (octet ∷ []), tt)) (kept more 253)
+  unfolding added
+  kept-with-room more octet s p = omega (arith, ap (λ (m : Kept). m .length) p)
+
+  -- as many octets put behind 251 as there is room for, where two do not fit
+  kept-with-cut : (more : List ℕ) (first second : ℕ) → RuledOut (kept-with.Post κs) (kept octets 251, (lent x (first ∷ second ∷ []), tt)) (kept more 252)
+  unfolding added
+  kept-with-cut more first second s p = omega (arith, ap (λ (m : Kept). m .length) p)
+
+  -- only the octets put behind counted, whatever they are, where there were some before
+  kept-with-count : (more top : List ℕ) (count : ℕ) → count + length top ≤ 252 → (count ≡ 0 → ⊥)
+      → RuledOut (kept-with.Post κs) (kept octets count, (lent x top, tt)) (kept more (length top))
+  unfolding added
+  kept-with-count more top count fits n s p =
+      n (omega (arith, ap (λ (m : Kept). m .length) (rw (le-leb (count + length top) 252 fits) at p)))

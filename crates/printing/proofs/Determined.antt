@@ -1,13 +1,16 @@
 -- Every public contract of this crate leaves one outcome.
--- By the law of its relation. Assumes nothing.
+-- By what it says that a call does. Assumes nothing.
 use denote.Ref.{now}
-use Rattle.octets.proofs.Outcome.{OneOutcome}
-use Rattle.printing.proofs.Lines.{lined-one}
+use Rattle.octets.proofs.Outcome.{OneOutcome, does-one}
+use Rattle.printing.proofs.put_text.Reads as put-text
 use Rattle.printing.proofs.line.Reads as line
 use Rattle.printing.proofs.gap_line.Reads as gap-line
 
+put-text-one : OneOutcome (λ κs s. now (s .0)) put-text.Post
+put-text-one κs a r r′ s s′ = does-one
+
 line-one : OneOutcome (λ κs s. now (s .0)) line.Post
-line-one κs a r r′ s s′ = lined-one
+line-one κs a r r′ s s′ = does-one
 
 gap-line-one : OneOutcome (λ κs s. now (s .0)) gap-line.Post
-gap-line-one κs a r r′ s s′ = lined-one
+gap-line-one κs a r r′ s s′ = does-one

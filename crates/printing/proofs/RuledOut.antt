@@ -1,89 +1,77 @@
 -- What the public contracts of this crate do not allow: two wrong outcomes or more of each.
 -- By what is left of a line that fits and of one that does not, then octet by octet. Assumes nothing.
-use Prim.Native.Nat.{ℕ, _+_, _≤_, _<_}
-use mathlib.Core.List.{List, [], _∷_, _++_}
+use Prim.Native.Nat.{ℕ, _≤_, _<_}
+use mathlib.Core.List.{List, [], _∷_}
 use mathlib.Core.Path.{_≡_, sym, ap, _∙_}
 use native.Mathlib.Omega.{arith}
 use contract.Lifetimes.{Lfts}
 use denote.Ref.{now}
-use lib.ListN.{length, getD, take, drop, length-append}
-use borrow.Author.Tests.{le-leb, lt-leb}
-use Rattle.octets.specs.Over.{fitsAt}
-use Rattle.octets.proofs.Over.{over-first}
+use lib.ListN.{length, getD, take, length-append}
 use Rattle.octets.proofs.Outcome.{RuledOut, RuledOutWith, Place, lent}
-use Rattle.carrying.specs.declared.Order.{Order}
-use Rattle.carrying.specs.declared.Order.the-variants.{Nothing, Clock}
+use Rattle.deeds.specs.declared.Order.{Order}
+use Rattle.deeds.specs.declared.Order.the-variants.{NoOrder, SetClock}
 use Rattle.printing.specs.Text.{figures, decimal, hexFigure, pairOf, pairs}
-use Rattle.printing.specs.Line.{beginning, lineOf, gapLine, Lined}
+use Rattle.printing.specs.Line.{beginning, lineOf, gapLine}
+use Rattle.printing.proofs.Lines.{counted, laid, refused, kept}
+use Rattle.printing.proofs.put_text.Reads as put-text
 use Rattle.printing.proofs.line.Reads as line
 use Rattle.printing.proofs.gap_line.Reads as gap-line
 
--- of a line that fits and of one that does not: its length, and what is left
-module _ {under text left : List ℕ} {count : ℕ} (p : Lined under text count left) where
-  -- the length of a line that fits
-  counted : length text ≤ length under → count ≡ length text
-  unfolding fitsAt
-  counted fits = rw (le-leb (0 + length text) (length under) (omega arith)) at (p .counts)
-
-  -- a line that fits, and the rest of the buffer behind it
-  laid : length text ≤ length under → left ≡ text ++ drop (length text) under
-  unfolding fitsAt
-  laid fits = rw (le-leb (0 + length text) (length under) (omega arith), over-first) at (p .leaves)
-
-  -- the length that is answered of a line that does not fit
-  refused : length under < length text → count ≡ 0
-  unfolding fitsAt
-  refused short = rw (lt-leb (0 + length text) (length under) (omega arith)) at (p .counts)
-
-  -- and what it leaves
-  kept : length under < length text → left ≡ under
-  unfolding fitsAt
-  kept short = rw (lt-leb (0 + length text) (length under) (omega arith)) at (p .leaves)
-
 module _ (κs : Lfts 2) (x y : Place) (out : List ℕ) where
+  -- whatever a text is
+  module _ (text : List ℕ) where
+    -- a text that fits, if only just, refused
+    put-text-fits : 0 < length text → length text ≤ length out → RuledOut (put-text.Post κs) (lent x out, (lent y text, tt)) 0
+    put-text-fits some fits s p = omega (arith, counted _ _ p fits)
+
+    -- a text that does not fit refused and the buffer yet changed
+    put-text-kept : (other : List ℕ) → length out < length text → (other ≡ out → ⊥)
+        → RuledOutWith (λ s. now (s .0)) (put-text.Post κs) (lent x out, (lent y text, tt)) 0 other
+    put-text-kept other short differ s e p = differ (cc (kept _ _ p short))
+
   -- whatever a line says
   module _ (number result : ℕ) (order : Order) (reply : List ℕ) where
     -- a line that fits, if only just, refused, whatever it says
     line-fits : length (lineOf number result order reply) ≤ length out
         → RuledOut (line.Post κs) (lent x out, (number, (result, (order, (lent y reply, tt))))) 0
     unfolding lineOf
-    line-fits fits s p = omega (arith, simp length-append at (counted p fits))
+    line-fits fits s p = omega (arith, simp length-append at (counted _ _ p fits))
 
     -- a length answered for a line that does not fit, whatever it says
     line-short : (count : ℕ) → length out < length (lineOf number result order reply) → 0 < count
         → RuledOut (line.Post κs) (lent x out, (number, (result, (order, (lent y reply, tt))))) count
-    line-short count short some s p = omega (arith, refused p short)
+    line-short count short some s p = omega (arith, refused _ _ p short)
 
     -- a line that does not fit refused and the buffer yet changed
     line-kept : (other : List ℕ) → length out < length (lineOf number result order reply) → (other ≡ out → ⊥)
         → RuledOutWith (λ s. now (s .0)) (line.Post κs) (lent x out, (number, (result, (order, (lent y reply, tt))))) 0 other
-    line-kept other short differ s e p = differ (cc (kept p short))
+    line-kept other short differ s e p = differ (cc (kept _ _ p short))
 
   -- a reply of two octets without the spaces before them, two octets less
-  line-spaces : 12 ≤ length out → RuledOut (line.Post κs) (lent x out, (1, (0, (Nothing, (lent y (0x10 ∷ 0x16 ∷ []), tt))))) 10
+  line-spaces : 12 ≤ length out → RuledOut (line.Post κs) (lent x out, (1, (0, (NoOrder, (lent y (0x10 ∷ 0x16 ∷ []), tt))))) 10
   unfolding lineOf beginning decimal figures pairs pairOf hexFigure
-  line-spaces room s p = omega (arith, counted p room)
+  line-spaces room s p = omega (arith, counted _ _ p room)
 
   -- hex figures in lower case
   line-case : 9 ≤ length out
-      → RuledOutWith (λ s. take 9 (now (s .0))) (line.Post κs) (lent x out, (1, (0, (Nothing, (lent y (0x0B ∷ []), tt))))) 9
+      → RuledOutWith (λ s. take 9 (now (s .0))) (line.Post κs) (lent x out, (1, (0, (NoOrder, (lent y (0x0B ∷ []), tt))))) 9
       (49 ∷ 32 ∷ 48 ∷ 32 ∷ 45 ∷ 32 ∷ 48 ∷ 98 ∷ 10 ∷ [])
   unfolding lineOf beginning decimal figures pairs pairOf hexFigure
-  line-case room s e p = omega (arith, ap (λ (l : List ℕ). getD l 7 0) (sym e ∙ ap (take 9) (laid p room)))
+  line-case room s e p = omega (arith, ap (λ (l : List ℕ). getD l 7 0) (sym e ∙ ap (take 9) (laid _ _ p room)))
 
   -- the dash of no reply before its space, in the second line of document 01's example
   line-dash : 8 ≤ length out
-      → RuledOutWith (λ s. take 8 (now (s .0))) (line.Post κs) (lent x out, (2, (4, (Nothing, (lent y [], tt))))) 8
+      → RuledOutWith (λ s. take 8 (now (s .0))) (line.Post κs) (lent x out, (2, (4, (NoOrder, (lent y [], tt))))) 8
       (50 ∷ 32 ∷ 52 ∷ 32 ∷ 45 ∷ 45 ∷ 32 ∷ 10 ∷ [])
   unfolding lineOf beginning decimal figures
-  line-dash room s e p = omega (arith, ap (λ (l : List ℕ). getD l 5 0) (sym e ∙ ap (take 8) (laid p room)))
+  line-dash room s e p = omega (arith, ap (λ (l : List ℕ). getD l 5 0) (sym e ∙ ap (take 8) (laid _ _ p room)))
 
   -- the result number before the run number, in the second line of document 01's example
   line-numbers : 8 ≤ length out
-      → RuledOutWith (λ s. take 8 (now (s .0))) (line.Post κs) (lent x out, (2, (4, (Nothing, (lent y [], tt))))) 8
+      → RuledOutWith (λ s. take 8 (now (s .0))) (line.Post κs) (lent x out, (2, (4, (NoOrder, (lent y [], tt))))) 8
       (52 ∷ 32 ∷ 50 ∷ 32 ∷ 45 ∷ 32 ∷ 45 ∷ 10 ∷ [])
   unfolding lineOf beginning decimal figures
-  line-numbers room s e p = omega (arith, ap (λ (l : List ℕ). getD l 0 0) (sym e ∙ ap (take 8) (laid p room)))
+  line-numbers room s e p = omega (arith, ap (λ (l : List ℕ). getD l 0 0) (sym e ∙ ap (take 8) (laid _ _ p room)))
 
   -- whatever a gap's line says
   module _ (number count : ℕ) (order : Order) (time : List ℕ) (damaged : ℕ) (buffer : List ℕ) where
@@ -91,29 +79,29 @@ module _ (κs : Lfts 2) (x y : Place) (out : List ℕ) where
     gap-line-fits : length (gapLine number count order time damaged buffer) ≤ length out
         → RuledOut (gap-line.Post κs) (lent x out, (number, (count, (order, (time, (damaged, (lent y buffer, tt))))))) 0
     unfolding gapLine
-    gap-line-fits fits s p = omega (arith, simp length-append at (counted p fits))
+    gap-line-fits fits s p = omega (arith, simp length-append at (counted _ _ p fits))
 
     -- a length answered for a gap's line that does not fit, whatever it says
     gap-line-short : (some : ℕ) → length out < length (gapLine number count order time damaged buffer) → 0 < some
         → RuledOut (gap-line.Post κs) (lent x out, (number, (count, (order, (time, (damaged, (lent y buffer, tt))))))) some
-    gap-line-short some short many s p = omega (arith, refused p short)
+    gap-line-short some short many s p = omega (arith, refused _ _ p short)
 
   -- number and length exchanged, whatever time octets stand beside no order
   gap-line-numbers : (time : List ℕ) → 11 ≤ length out
-      → RuledOutWith (λ s. take 11 (now (s .0))) (gap-line.Post κs) (lent x out, (0, (6, (Nothing, (time, (0, (lent y [], tt))))))) 11
+      → RuledOutWith (λ s. take 11 (now (s .0))) (gap-line.Post κs) (lent x out, (0, (6, (NoOrder, (time, (0, (lent y [], tt))))))) 11
       (54 ∷ 32 ∷ 48 ∷ 32 ∷ 45 ∷ 32 ∷ 45 ∷ 32 ∷ 48 ∷ 32 ∷ 10 ∷ [])
   unfolding gapLine beginning decimal figures pairs
-  gap-line-numbers time room s e p = omega (arith, ap (λ (l : List ℕ). getD l 0 0) (sym e ∙ ap (take 11) (laid p room)))
+  gap-line-numbers time room s e p = omega (arith, ap (λ (l : List ℕ). getD l 0 0) (sym e ∙ ap (take 11) (laid _ _ p room)))
 
   -- the reply's length in place of the count of damaged runs
   gap-line-damaged : (time : List ℕ) → 11 ≤ length out
-      → RuledOutWith (λ s. take 11 (now (s .0))) (gap-line.Post κs) (lent x out, (0, (6, (Nothing, (time, (1, (lent y [], tt))))))) 11
+      → RuledOutWith (λ s. take 11 (now (s .0))) (gap-line.Post κs) (lent x out, (0, (6, (NoOrder, (time, (1, (lent y [], tt))))))) 11
       (48 ∷ 32 ∷ 54 ∷ 32 ∷ 45 ∷ 32 ∷ 45 ∷ 32 ∷ 54 ∷ 32 ∷ 10 ∷ [])
   unfolding gapLine beginning decimal figures pairs
-  gap-line-damaged time room s e p = omega (arith, ap (λ (l : List ℕ). getD l 8 0) (sym e ∙ ap (take 11) (laid p room)))
+  gap-line-damaged time room s e p = omega (arith, ap (λ (l : List ℕ). getD l 8 0) (sym e ∙ ap (take 11) (laid _ _ p room)))
 
   -- ten time octets for an order to set the clock, which has seven: six figures more
   gap-line-time : (a b c d e f g h i j : ℕ) → 34 ≤ length out
-      → RuledOut (gap-line.Post κs) (lent x out, (0, (6, (Clock, (a ∷ b ∷ c ∷ d ∷ e ∷ f ∷ g ∷ h ∷ i ∷ j ∷ [], (0, (lent y [], tt))))))) 34
+      → RuledOut (gap-line.Post κs) (lent x out, (0, (6, (SetClock, (a ∷ b ∷ c ∷ d ∷ e ∷ f ∷ g ∷ h ∷ i ∷ j ∷ [], (0, (lent y [], tt))))))) 34
   unfolding gapLine beginning decimal figures pairs pairOf
-  gap-line-time a b c d e f g h i j room s p = omega (arith, counted p (omega arith))
+  gap-line-time a b c d e f g h i j room s p = omega (arith, counted _ _ p (omega arith))

@@ -2,13 +2,12 @@
 -- Assumes nothing.
 use Prim.Native.Nat.{ℕ}
 use mathlib.Core.List.{List, [], _∷_, _++_}
-use mathlib.Core.Path.{_≡_}
 use lib.ListN.{length, take}
 use Rattle.octets.specs.Choice.{if_then_else_}
-use Rattle.octets.specs.Over.{over, fitsAt}
-use Rattle.carrying.specs.declared.Order.{Order}
-use Rattle.carrying.specs.declared.Order.the-variants.{Nothing, Clock, Dates}
-use Rattle.carrying.specs.Carrying.{timeOctets}
+use Rattle.octets.specs.Over.{fitsAt, laidIn, Does}
+use Rattle.deeds.specs.declared.Order.{Order}
+use Rattle.deeds.specs.declared.Order.the-variants.{NoOrder, SetClock, SetDates}
+use Rattle.deeds.specs.Deeds.{timeOctets}
 use Rattle.printing.specs.Text.{decimal, pairs}
 
 -- what stands between, what stands for nothing, what ends a line
@@ -27,9 +26,9 @@ cutLine = 99 ∷ 117 ∷ 116 ∷ newline
 
 -- an order: -, clock or dates
 abbrev pub word : Order → List ℕ
-word Nothing = dash
-word Clock = 99 ∷ 108 ∷ 111 ∷ 99 ∷ 107 ∷ []
-word Dates = 100 ∷ 97 ∷ 116 ∷ 101 ∷ 115 ∷ []
+word NoOrder = dash
+word SetClock = 99 ∷ 108 ∷ 111 ∷ 99 ∷ 107 ∷ []
+word SetDates = 100 ∷ 97 ∷ 116 ∷ 101 ∷ 115 ∷ []
 
 -- two numbers and an order: what both lines begin with
 unfoldable pub beginning : ℕ → ℕ → Order → List ℕ
@@ -46,17 +45,19 @@ lineOf number result order reply = beginning number result order ++ replyText re
 
 -- the octets of an order: of ten the first 7 for the clock and all for the dates, or -
 abbrev pub timeText : Order → List ℕ → List ℕ
-timeText Nothing time = dash
-timeText Clock time = pairs [] (take (timeOctets Clock) time)
-timeText Dates time = pairs [] (take (timeOctets Dates) time)
+timeText NoOrder time = dash
+timeText SetClock time = pairs [] (take (timeOctets SetClock) time)
+timeText SetDates time = pairs [] (take (timeOctets SetDates) time)
 
 -- the driving program's line: number, length, order, the order's octets, the count of damaged runs, the buffer
 unfoldable pub gapLine : ℕ → ℕ → Order → List ℕ → ℕ → List ℕ → List ℕ
 gapLine number count order time damaged buffer =
     beginning number count order ++ space ++ timeText order time ++ space ++ decimal damaged ++ space ++ pairs [] buffer ++ newline
 
--- `Lined under text count left`: a line that fits stands in the first octets of the buffer, the rest unchanged, and its length is answered;
--- else the answer is 0, and the buffer is as it was
-pub record Lined (under text : List ℕ) (count : ℕ) (left : List ℕ) : Type 0 where
-  pub counts : count ≡ (if fitsAt under 0 text then length text else 0)
-  pub leaves : left ≡ (if fitsAt under 0 text then over under 0 text else under)
+-- of a text that does not fit into a buffer nothing is written
+abbrev pub fitting : List ℕ → List ℕ → List ℕ
+fitting under text = if fitsAt under 0 text then text else []
+
+-- `Lined under text count left`: what fits stands in the first octets of the buffer, the rest unchanged, and its length is answered
+abbrev pub Lined : List ℕ → List ℕ → ℕ → List ℕ → Type 0
+Lined under text count left = Does (length (fitting under text)) (laidIn under (fitting under text)) count left

@@ -5,11 +5,11 @@ ghost use mathlib.Core.Path.{_≡_};
 ghost use lib.Dec.{leb};
 ghost use lib.ListN.{length};
 ghost use Rattle.octets.specs.Over.{over};
-ghost use Rattle.message.specs.Kept.{messageOf, octetsOf, added};
+ghost use Rattle.octets.specs.Keeping.{keptOf, octetsOf, added};
 ghost use Rattle.printing.specs.Text.{decimal, hexFigure, pairOf, pairs};
 ghost use Rattle.printing.specs.Line.{word, beginning, newline, timeText, lineOf, gapLine, Lined};
-use carrying::Order;
-use message::Message;
+use deeds::Order;
+use octets::Kept;
 
 fn hex_figure(n: u8) -> u8
     requires { ⌜ n < 16 ⌝ }
@@ -53,8 +53,8 @@ fn put_pairs(out: &mut [u8], at: usize, before: &[u8], octets: &[u8]) -> usize
     to
 }
 
-// A line's text is kept in a message while it is short: all of it but the last octets in hex.
-fn with_number(text: Message, n: u64) -> Message
+// A line's text is kept while it is short: all of it but the last octets in hex.
+fn with_number(text: Kept, n: u64) -> Kept
     ensures { λ r. ⌜ r ≡ added text (decimal n) ⌝ }
 {
     let mut figures = [0u8; 20];
@@ -62,20 +62,20 @@ fn with_number(text: Message, n: u64) -> Message
     text.with(&figures[..count])
 }
 
-fn with_word(text: Message, order: Order) -> Message
+fn with_word(text: Kept, order: Order) -> Kept
     ensures { λ r. ⌜ r ≡ added text (word order) ⌝ }
 {
     match order {
-        Order::Nothing => text.with(b"-"),
-        Order::Clock => text.with(b"clock"),
-        Order::Dates => text.with(b"dates"),
+        Order::NoOrder => text.with(b"-"),
+        Order::SetClock => text.with(b"clock"),
+        Order::SetDates => text.with(b"dates"),
     }
 }
 
-fn begin(first: u64, second: u64, order: Order) -> Message
-    ensures { λ r. ⌜ r ≡ messageOf (beginning first second order) ⌝ }
+fn begin(first: u64, second: u64, order: Order) -> Kept
+    ensures { λ r. ⌜ r ≡ keptOf (beginning first second order) ⌝ }
 {
-    let numbers = with_number(with_number(Message::new(), first).with(b" "), second);
+    let numbers = with_number(with_number(Kept::new(), first).with(b" "), second);
     with_word(numbers.with(b" "), order)
 }
 
@@ -87,14 +87,14 @@ fn time_pairs(time: [u8; 10]) -> [u8; 20]
     text
 }
 
-fn with_time(text: Message, order: Order, time: [u8; 10]) -> Message
+fn with_time(text: Kept, order: Order, time: [u8; 10]) -> Kept
     ensures { λ r. ⌜ r ≡ added text (timeText order time) ⌝ }
 {
     let hex = time_pairs(time);
     match order {
-        Order::Nothing => text.with(b"-"),
-        Order::Clock => text.with(octets::part(&hex, 0, 14)),
-        Order::Dates => text.with(octets::part(&hex, 0, 20)),
+        Order::NoOrder => text.with(b"-"),
+        Order::SetClock => text.with(octets::part(&hex, 0, 14)),
+        Order::SetDates => text.with(octets::part(&hex, 0, 20)),
     }
 }
 
@@ -122,6 +122,16 @@ fn lay(out: &mut [u8], text: &[u8], before: &[u8], octets: &[u8]) -> usize
         let end = put_pairs(out, text.len(), before, octets);
         octets::put(out, end, b"\n");
         return end + 1;
+    }
+    0
+}
+
+// Writes a text, or nothing where it does not fit, and answers how many octets are written.
+pub fn put_text(out: &mut [u8], text: &[u8]) -> usize
+    ensures { λ r. ⌜ Lined (now (out .entry)) (now (text .entry)) r (now (out .exit)) ⌝ }
+{
+    if octets::put(out, 0, text) {
+        return text.len();
     }
     0
 }
@@ -155,7 +165,7 @@ pub fn gap_line(
     laid(out, text.with(b" "), b"", buffer)
 }
 
-fn laid(out: &mut [u8], text: Message, before: &[u8], octets: &[u8]) -> usize
+fn laid(out: &mut [u8], text: Kept, before: &[u8], octets: &[u8]) -> usize
     requires { ⌜ (length (octetsOf text) ≤ 252) × (length (now before) ≤ 1) ⌝ }
     ensures { λ r. ⌜ Lined (now (out .entry)) (octetsOf text ++ pairs (now (before .entry)) (now (octets .entry)) ++ newline) r (now (out .exit)) ⌝ }
 {

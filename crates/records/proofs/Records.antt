@@ -10,7 +10,7 @@ use native.Mathlib.Omega.{arith}
 use borrow.Author.Tests.{ltb-true, leb-true, leb-false, eqb-true, lt-ltb, le-leb, eq-eqb, ne-eqb}
 use lib.Dec.{leb}
 use lib.ListN.{length, getD, take, drop, length-append, length-drop, List·getD-append}
-use lib.Seq.{drop-drop, getD-drop, getD-take, length-take-le, take-nil, take-take, take-append-le}
+use lib.Seq.{drop-drop, getD-drop, getD-take, length-take-le, take-take, take-append-le}
 use Rattle.octets.specs.Conditions.{holds}
 use Rattle.octets.specs.Numbers.{highFirst}
 use Rattle.octets.proofs.Choice.{same-test}
@@ -240,13 +240,7 @@ module _ (s : List ℕ) (at : ℕ) where
       by-test true e = absurd (omega (arith, after-later e))
       by-test false e = e
 
--- a part of the record at a place is a part of the list that it stands in
-drop-take : (k n : ℕ) (l : List ℕ) → drop k (take n l) ≡ take (n - k) (drop k l)
-drop-take zero n l = let e : n - 0 ≡ n = omega arith in rw e
-drop-take (suc k) zero l = let e : 0 - suc k ≡ 0 = omega arith in rw e
-drop-take (suc k) (suc n) [] = sym (take-nil (suc n - suc k))
-drop-take (suc k) (suc n) (x ∷ l) = let e : suc n - suc k ≡ n - k = omega arith in rw e (drop-take k n l)
-
+-- the octets of the record at a place are octets of the list that it stands in
 module _ (s : List ℕ) (at : ℕ) (e : wholeAt s at ≡ true) where
   size-at : length (recordAt s at) ≡ sizeOf (drop at s)
   unfolding wholeAt recordAt
@@ -259,12 +253,6 @@ module _ (s : List ℕ) (at : ℕ) (e : wholeAt s at ≡ true) where
   pub octet-at : (k : ℕ) → k < length (recordAt s at) → getD (recordAt s at) k 0 ≡ getD s (at + k) 0
   unfolding recordAt
   octet-at k h = getD-take (sizeOf (drop at s)) (drop at s) k 0 (omega (arith, size-at)) ∙ getD-drop at s k 0
-
-  pub part-of : (width k : ℕ) → k + width ≤ length (recordAt s at) → take width (drop k (recordAt s at)) ≡ take width (drop (at + k) s)
-  unfolding recordAt
-  part-of width k h =
-      rw (drop-take k (sizeOf (drop at s)) (drop at s), drop-drop k at s)
-      (take-take width (sizeOf (drop at s) - k) (drop (at + k) s) (omega (arith, size-at)))
 
   pub kind-there : kindOf (recordAt s at) ≡ getD s (at + 2) 0
   kind-there = let h = stands-facts s at e in octet-at 2 (omega arith)

@@ -1,32 +1,19 @@
 -- What is said over the records from a place on, as a loop over the places comes to it: at the end, and one record further.
 -- By the walk's two steps. Assumes nothing.
 use Prim.Native.Nat.{ℕ, zero, suc, _<_}
-use mathlib.Core.Bool.{Bool, true, false, _&&_}
+use mathlib.Core.Bool.{Bool, true, false}
 use mathlib.Core.List.{List, [], _∷_}
-use mathlib.Core.Path.{_≡_, refl, sym, _∙_}
+use mathlib.Core.Path.{_≡_, refl, ap, _∙_}
 use native.Mathlib.Omega.{arith}
 use lib.ListN.{length, getD}
 use Rattle.octets.specs.Choice.{if_then_else_}
+use Rattle.octets.proofs.Choice.{not-both}
 use Rattle.octets.proofs.Conditions.{and-left, and-right}
 use Rattle.records.specs.Records.{wholeAt, recordAt, recordsFrom, placeAfter}
 use Rattle.records.specs.Said.{every, keep, placesOf}
 use Rattle.records.proofs.Records.{from-end, from-more, after-whole}
 
 module _ (f : List ℕ → Bool) (s : List ℕ) (at : ℕ) where
-  pub every-end : wholeAt s at ≡ false → true ≡ every f (recordsFrom s at)
-  unfolding every
-  every-end e = sym (rw (from-end s at e))
-
-  pub every-more : wholeAt s at ≡ true → every f (recordsFrom s at) ≡ (f (recordAt s at) && every f (recordsFrom s (placeAfter s at)))
-  unfolding every
-  every-more e = rw (from-more s at e)
-
-  pub every-step : wholeAt s at ≡ true → f (recordAt s at) ≡ true → every f (recordsFrom s (placeAfter s at)) ≡ every f (recordsFrom s at)
-  every-step e p = sym (every-more e ∙ rw p)
-
-  pub every-stop : wholeAt s at ≡ true → f (recordAt s at) ≡ false → false ≡ every f (recordsFrom s at)
-  every-stop e p = sym (every-more e ∙ rw p)
-
   pub places-end : wholeAt s at ≡ false → placesOf f at (recordsFrom s at) ≡ []
   unfolding placesOf
   places-end e = rw (from-end s at e)
@@ -70,3 +57,16 @@ module _ (f : List ℕ → Bool) where
   unfolding every keep
   keep-none g out [] e = refl
   keep-none g out (r ∷ rs) e = rw (out r (and-left (g r) (every g rs) e)) (keep-none g out rs (and-right (g r) (every g rs) e))
+
+-- to keep some of what is kept is to keep these
+pub keep-within : (f g : List ℕ → Bool) → ((r : List ℕ) → f r ≡ true → g r ≡ true) → (rs : List (List ℕ)) → keep f (keep g rs) ≡ keep f rs
+unfolding keep
+keep-within f g so [] = refl
+keep-within f g so (r ∷ rs) = by-tests (keep-within f g so rs) (g r) (f r) refl refl
+  where
+    by-tests : keep f (keep g rs) ≡ keep f rs → (t u : Bool) → g r ≡ t → f r ≡ u
+        → keep f (if t then r ∷ keep g rs else keep g rs) ≡ (if u then r ∷ keep f rs else keep f rs)
+    by-tests rest true true p q = rw q (ap (r ∷_) rest)
+    by-tests rest true false p q = rw q rest
+    by-tests rest false true p q = absurd (not-both p (so r q))
+    by-tests rest false false p q = rest

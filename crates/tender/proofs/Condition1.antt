@@ -1,136 +1,98 @@
 -- Condition 1 holds of our card, and the count of damaged runs is tied to the number.
--- The definition and the paper's list are walked side by side, test by test; each end is one of three. Assumes nothing.
+-- The definition and the paper's list are walked side by side, test by test; each end is one of four. Assumes nothing.
 use Prim.Native.Nat.{ℕ, _≤_}
-use mathlib.Core.Bool.{Bool, true, false, not, _&&_, _||_, false≢true}
-use mathlib.Core.List.{List, [], _∷_}
+use mathlib.Core.Bool.{Bool, true, false, not, _&&_, _||_}
+use mathlib.Core.List.{List, []}
 use mathlib.Core.Path.{_≡_, refl, ap, sym, _∙_}
 use native.Mathlib.Omega.{arith}
-use lib.Dec.{leb, ltb, eqb}
+use lib.Dec.{ltb, eqb}
 use lib.ListN.{length, drop, length-take}
-use borrow.Author.Tests.{le-leb, le-ltb, ltb-false}
-use Rattle.octets.specs.Answer.{Answer}
+use borrow.Author.Tests.{le-ltb, ltb-false}
 use Rattle.octets.specs.Choice.{if_then_else_}
-use Rattle.octets.proofs.Choice.{not-both, either, if-both}
-use Rattle.address.specs.declared.LinkAddress.{LinkAddress}
-use Rattle.history.specs.History.{Each}
-use Rattle.frame.specs.declared.Form.{Form}
-use Rattle.frame.specs.declared.Form.the-variants.{Fixed, Variable}
+use Rattle.octets.specs.First.{firstOf_else_}
+use Rattle.octets.specs.declared.Kept.{Kept}
+use Rattle.octets.proofs.Choice.{not-both, if-both}
+use Rattle.frame.specs.declared.Fault.{Fault}
+use Rattle.frame.specs.declared.Fault.the-variants.{Empty, Long, Malformed, Spoiled}
+use Rattle.frame.specs.declared.Form.the-variants as form
 use Rattle.frame.specs.declared.Service.{Service}
-use Rattle.frame.specs.declared.Service.the-variants.{NotOffered, Reset, UserData, Status, Collection}
+use Rattle.frame.specs.declared.Service.the-variants.{Reset, UserData, Status, Collection}
+use Rattle.frame.specs.declared.Asked.{Asked}
+use Rattle.frame.specs.declared.Asked.the-variants.{Is, NotOffered}
 use Rattle.frame.specs.Family.{sapr}
-use Rattle.frame.specs.Frame.{Verdict, fixedForm, variableForm, sumRight, startOf, said, judge}
-use Rattle.frame.specs.Control.{fcb, fromCentre, asked, offered, serviceSays}
-use Rattle.message.specs.declared.Message.{Message}
-use Rattle.parts.specs.Answers.{headFound}
+use Rattle.frame.specs.Frame.{Frame, fixed, variable, Verdict, sound, fixedForm, variableForm, sumRight, startOf, said, judge}
+use Rattle.frame.specs.Judging.{faultNumber}
+use Rattle.frame.specs.Controls.{offered, askedBy, user-data, collects}
+use Rattle.fields.specs.Answers.{identityFound}
 use Rattle.image.specs.Image.{soundImage}
-use Rattle.line.specs.declared.Heard.{Heard}
-use Rattle.line.specs.declared.Examined.{Examined}
-use Rattle.line.specs.Collecting.{emptied, isOverfull, runOf}
-use Rattle.line.specs.Damage.{isDamaged, damagedAfter}
-use Rattle.line.specs.Examining.{heardOf, isLink, verdictOf, examinedFrame, examinedVerdict, examined}
-use Rattle.carrying.specs.Carrying.{isWaiting}
-use Rattle.giving.specs.Giving.{nextOf}
+use Rattle.collector.specs.Collecting.{emptied, isOverfull, runOf, verdictOf}
+use Rattle.collector.specs.Damage.{oneMore}
 use Rattle.link.specs.declared.Link.{Link}
 use Rattle.link.specs.declared.Answered.{Answered}
-use Rattle.link.specs.Answering.{refusedBy, replied, carried, noted, userData, given, collection, resetBy, statusBy, answered}
-use Rattle.link.specs.Answering.{counted as withFcb}
+use Rattle.link.specs.Answering.{answeredBy, noted, carried}
+use Rattle.link.proofs.Answering.{Way, as-reset, as-status, not-reset, repeated, as-nack, carried-out, as-given, nothing-given, way}
 use Rattle.card.specs.declared.Card.{Card}
-use Rattle.card.specs.State.{withOctet, runGone, linkedBy}
-use Rattle.card.specs.Gap.{Outcome, refusal, afterAnswer, afterExamining, gapped}
-use Rattle.card.proofs.Gap.{answer-refused, answer-replied}
+use Rattle.card.specs.declared.Examined.{Examined}
+use Rattle.card.specs.State.{withOctet, leftWith, damagedBy}
+use Rattle.card.specs.Examining.{isLink, heard, examinedFrame, examinedVerdict, examined}
+use Rattle.card.specs.Gap.{Outcome, refusal, repliedBy, afterAnswer, afterExamining, gapped}
 use Rattle.tender.specs.Card.{Loan, seenOf, outcomeAt, ourCard}
-use Rattle.tender.specs.Condition1.{Due, firstDue, refusals, Refused, Condition1, Counted}
+use Rattle.tender.specs.Condition1.{linkOf, isNotOffered, isCounted, refusals, changesNothing, isDamage, Refused, Condition1, Counted}
 
--- 2 to 7 empty the collector and keep link and session
-abbrev goes : ℕ → Bool
-goes n = leb 2 n && leb n 7
-
--- the three ends of a gap: nothing changes; the run is gone, link and session are kept; a frame is answered
+-- the ends of a gap: nothing changes; the run is gone, and counted or not, and link and session are kept; a frame is answered
 data Ends (card : Card) : Outcome → ℕ → Type 0 where
-  kept : {n : ℕ} → isDamaged n ≡ false → goes n ≡ false → Ends card (refusal n card) n
-  gone : {n : ℕ} → goes n ≡ true → Ends card (refusal n (runGone n card)) n
+  kept : {n : ℕ} → changesNothing n ≡ true → isDamage n ≡ false → Ends card (refusal n card) n
+  damaged : {n : ℕ} → changesNothing n ≡ false → isDamage n ≡ true
+      → Ends card (refusal n (record { collector = emptied; link = card .link; damaged = oneMore (card .damaged) })) n
+  gone : {n : ℕ} → changesNothing n ≡ false → isDamage n ≡ false → Ends card (refusal n (leftWith (card .link) card)) n
   answers : {o : Outcome} → o .number ≡ 0 → o .card .damaged ≡ card .damaged → Ends card o 0
 
--- what is offered is a service, and what is not is none
-record Says (a : Answer) : Type 0 where
-  service : Service
-  says : a ≡ serviceSays service
+-- a fault ends as its number says
+fault-ends : (card : Card) (fault : Fault) → Ends card (refusal (faultNumber fault) (damagedBy fault card)) (faultNumber fault)
+unfolding damagedBy
+fault-ends card Empty = kept refl refl
+fault-ends card Long = damaged refl refl
+fault-ends card Malformed = damaged refl refl
+fault-ends card Spoiled = damaged refl refl
 
-offered-says : (form : Form) (c : ℕ) → Says (offered form c)
-unfolding offered
-offered-says form c =
-    either Says (not (fromCentre c)) (λ t. record { service = NotOffered; says = refl }) (λ t.
-    either Says (asked form c Fixed 0 0) (λ t. record { service = Reset; says = refl }) (λ t.
-    either Says (asked form c Variable 3 1) (λ t. record { service = UserData (fcb c); says = refl }) (λ t.
-    either Says (asked form c Fixed 9 0) (λ t. record { service = Status; says = refl }) (λ t.
-    either Says (asked form c Fixed 11 1) (λ t. record { service = Collection (fcb c); says = refl }) (λ t.
-    record { service = NotOffered; says = refl })))))
-
-abbrev Numbered : Answered → ℕ → Type 0
-Numbered a n = a .number ≡ n
-
-abbrev Is0 : Answered → Type 0
-Is0 a = a .number ≡ 0
-
--- functions 3 and 11 are 7 before the first reset, and else answered
-fcb-number : (address : LinkAddress) (function bit : ℕ) (link : Link) (request : Message) (image clock : List ℕ)
-    → withFcb address function bit link request image clock .number ≡ (if not (link .reset) then 7 else 0)
-unfolding withFcb refusedBy replied userData noted carried collection given
-fcb-number address function bit link request image clock =
-    if-both Numbered (not (link .reset)) (λ t. refl) (λ t.
-    either Is0 (eqb bit (link .fcb)) (λ t. refl) (λ t.
-    either Is0 (eqb function 3)
-    (λ t. either Is0 (isWaiting (link .pending .waiting) || ltb (request .length) 6) (λ t. refl) (λ t. refl))
-    (λ t. either Is0 (nextOf (link .pending) image .found) (λ t. refl) (λ t. refl))))
+-- 7: a service is refused exactly when it counts and there was no reset
+answer-ends : (card : Card) (user : Kept) (image clock : List ℕ) {service : Service} {a : Answered} → Way (card .link) user image clock service a
+    → Ends card (afterAnswer card a) (if isCounted (Is service) && not (card .link .reset) then 7 else 0)
+unfolding afterAnswer answeredBy noted carried repliedBy leftWith
+answer-ends card user image clock as-reset = answers refl refl
+answer-ends card user image clock as-status = answers refl refl
+answer-ends card user image clock (not-reset user-data r) = rw r (gone refl refl)
+answer-ends card user image clock (not-reset collects r) = rw r (gone refl refl)
+answer-ends card user image clock (repeated user-data r e) = rw r (answers refl refl)
+answer-ends card user image clock (repeated collects r e) = rw r (answers refl refl)
+answer-ends card user image clock (as-nack fresh w) = rw (fresh .is-reset) (answers refl refl)
+answer-ends card user image clock (carried-out fresh w) = rw (fresh .is-reset) (answers refl refl)
+answer-ends card user image clock (as-given fresh f) = rw (fresh .is-reset) (answers refl refl)
+answer-ends card user image clock (nothing-given fresh f) = rw (fresh .is-reset) (answers refl refl)
 
 module _ (card : Card) (loan : Loan) where
   abbrev run : List ℕ
   run = runOf (card .collector)
 
-  abbrev frame : Heard
-  frame = heardOf (said sapr run)
-
-  abbrev answer : Answered
-  answer = answered (card .link) frame (loan .image) (loan .clock)
-
-  -- 6 and 7, the last two of the list
-  answer-number : answer .number ≡ firstDue (drop 7 (refusals card loan))
-  unfolding answered refusedBy resetBy statusBy replied
-  answer-number =
-      let s = offered-says (frame .form) (frame .control) in
-      by-service (s .service) (s .says)
-    where
-      by-service : (service : Service) → offered (frame .form) (frame .control) ≡ serviceSays service → answer .number ≡ firstDue (drop 7 (refusals card loan))
-      by-service NotOffered e = rw e
-      by-service Reset e = rw e
-      by-service (UserData bit) e = rw e (fcb-number _ _ _ _ _ _ _)
-      by-service Status e = rw e
-      by-service (Collection bit) e = rw e (fcb-number _ _ _ _ _ _ _)
-
-  -- what is answered ends as its number says, if that is 0 or one of 2 to 7
-  refused-ends : (a : Answered) {n : ℕ} → a .number ≡ n → goes n ≡ true → Ends card (afterAnswer card a) n
-  refused-ends a e g = rw (answer-refused card a (λ z. false≢true (ap goes (sym z ∙ e) ∙ g)), e) (gone g)
-
-  replied-ends : (a : Answered) → a .number ≡ 0 → Ends card (afterAnswer card a) 0
-  unfolding linkedBy runGone damagedAfter isDamaged
-  replied-ends a e = rw (answer-replied card a e) (answers refl refl)
-
-  answer-ends : (a : Answered) (ds : List Due) → Each (λ (d : Due). goes (d .number) ≡ true) ds → a .number ≡ firstDue ds
-      → Ends card (afterAnswer card a) (firstDue ds)
-  answer-ends a [] g = replied-ends a
-  answer-ends a (d ∷ ds) g =
-      either (λ (n : ℕ). a .number ≡ n → Ends card (afterAnswer card a) n) (d .test) (λ t e. refused-ends a e (g .0)) (λ t. answer-ends a ds (g .1))
-
   abbrev ExaminedEnds : Examined → ℕ → Type 0
   ExaminedEnds x n = Ends card (afterExamining card x (loan .image) (loan .clock)) n
 
-  -- 5 and 6
-  frame-ends : ExaminedEnds (examinedFrame (loan .image) frame) (firstDue (drop 6 (refusals card loan)))
+  -- 6 and 7
+  heard-ends : (asked : Asked) (user : List ℕ)
+      → ExaminedEnds (heard asked user) (if isNotOffered asked then 6 else if isCounted asked && not (card .link .reset) then 7 else 0)
+  unfolding afterExamining
+  heard-ends NotOffered user = gone refl refl
+  heard-ends (Is service) user = answer-ends card _ (loan .image) (loan .clock) (way (card .link) _ (loan .image) (loan .clock) service)
+
+  -- 5
+  frame-ends : (f : Frame) → ExaminedEnds (examinedVerdict (loan .image) (sound f))
+      (if not (isLink (identityFound (loan .image)) (linkOf f)) then 5 else
+      if isNotOffered (askedBy f) then 6 else if isCounted (askedBy f) && not (card .link .reset) then 7 else 0)
   unfolding examinedFrame afterExamining
-  frame-ends =
-      if-both ExaminedEnds (not (isLink (headFound (loan .image)) (frame .link))) (λ t. gone refl) (λ t.
-      if-both ExaminedEnds (eqb (offered (frame .form) (frame .control) .number) 6) (λ t. gone refl) (λ t.
-      rw t at (answer-ends answer (drop 7 (refusals card loan)) (refl, (refl, tt)) answer-number)))
+  frame-ends (fixed c a) =
+      if-both ExaminedEnds (not (isLink (identityFound (loan .image)) (record { 0 = a }))) (λ t. gone refl refl) (λ t. heard-ends (offered form.Fixed c) [])
+  frame-ends (variable c a user) =
+      if-both ExaminedEnds (not (isLink (identityFound (loan .image)) (record { 0 = a }))) (λ t. gone refl refl) (λ t. heard-ends (offered form.Variable c) user)
 
   abbrev VerdictEnds : Verdict → ℕ → Type 0
   VerdictEnds v n = ExaminedEnds (examinedVerdict (loan .image) v) n
@@ -143,64 +105,55 @@ module _ (card : Card) (loan : Loan) where
       le-ltb 261 (length run) (rw length-take (omega arith))
 
   -- 1 to 4, by whether the collector is overfull
-  run-ends : (t : Bool) → isOverfull (card .collector) ≡ t → ExaminedEnds (examined (card .collector) (loan .image)) (firstDue (drop 2 (refusals card loan)))
-  unfolding examined verdictOf judge afterExamining isDamaged
-  run-ends true e = rw e (gone {n = 2} refl)
+  run-ends : (t : Bool) → isOverfull (card .collector) ≡ t
+      → ExaminedEnds (examined (card .collector) (loan .image)) (firstOf drop 2 (refusals card loan) else 0)
+  unfolding examined verdictOf judge afterExamining
+  run-ends true e = rw e (fault-ends card Long)
   run-ends false e =
       rw (e, run-fits e)
-      (if-both VerdictEnds (eqb (length run) 0) (λ t. kept refl refl) (λ t.
-      if-both VerdictEnds (not (fixedForm sapr run || variableForm sapr run)) (λ t. gone refl) (λ t.
-      if-both VerdictEnds (not (sumRight (startOf sapr run) run)) (λ t. gone refl) (λ t. frame-ends))))
+      (if-both VerdictEnds (eqb (length run) 0) (λ t. fault-ends card Empty) (λ t.
+      if-both VerdictEnds (not (fixedForm sapr run || variableForm sapr run)) (λ t. fault-ends card Malformed) (λ t.
+      if-both VerdictEnds (not (sumRight (startOf sapr run) run)) (λ t. fault-ends card Spoiled) (λ t. frame-ends (said sapr run)))))
 
   -- 9 and 8
-  gap-ends : Ends card (outcomeAt card loan) (firstDue (refusals card loan))
-  unfolding gapped isDamaged
+  gap-ends : Ends card (outcomeAt card loan) (firstOf refusals card loan else 0)
+  unfolding gapped
   gap-ends =
       if-both (Ends card) (ltb (length (loan .buffer)) 261) (λ t. kept refl refl) (λ t.
       if-both (Ends card) (not (soundImage (loan .image))) (λ t. kept refl refl) (λ t.
       run-ends (isOverfull (card .collector)) refl))
 
+-- a refusal that leaves this card
 abbrev Leaves : Card → Loan → Outcome → Type 0
 Leaves card loan o = Refused card loan (record { state = o .card; answer = seenOf o (loan .buffer) })
-
-within : (n : ℕ) → 2 ≤ n → n ≤ 7 → goes n ≡ true
-within n least most = rw (le-leb 2 n least, le-leb n 7 most)
 
 -- what each end says
 module _ {card : Card} where
   ends-number : {o : Outcome} {n : ℕ} → Ends card o n → o .number ≡ n
   unfolding refusal
-  ends-number (kept d g) = refl
-  ends-number (gone g) = refl
+  ends-number (kept k d) = refl
+  ends-number (damaged k d) = refl
+  ends-number (gone k d) = refl
   ends-number (answers e d) = e
 
-  ends-counted : {o : Outcome} {n : ℕ} → Ends card o n → o .card .damaged ≡ damagedAfter (card .damaged) (o .number)
-  unfolding refusal runGone damagedAfter isDamaged
-  ends-counted (kept d g) = rw d
-  ends-counted (gone g) = refl
+  ends-counted : {o : Outcome} {n : ℕ} → Ends card o n → o .card .damaged ≡ (if isDamage (o .number) then oneMore (card .damaged) else card .damaged)
+  unfolding refusal leftWith
+  ends-counted (kept k d) = rw d
+  ends-counted (damaged k d) = rw d
+  ends-counted (gone k d) = rw d
   ends-counted (answers e d) = rw e d
 
-  -- a refusal that leaves this card: with 2 to 7 an empty collector, and else all as it was
-  refusal-leaves : (loan : Loan) (n : ℕ) (after : Card) → after .link ≡ card .link → (goes n ≡ true → after .collector ≡ emptied)
-      → (goes n ≡ false → after ≡ card) → Leaves card loan (refusal n after)
+  refusal-leaves : (loan : Loan) (n : ℕ) (after : Card) → after .link ≡ card .link → (changesNothing n ≡ true → after ≡ card)
+      → (changesNothing n ≡ false → after .collector ≡ emptied) → Leaves card loan (refusal n after)
   unfolding refusal
-  refusal-leaves loan n after link empty all =
-      record {
-        buffer-kept = refl;
-        no-reply = refl;
-        no-order = refl;
-        no-time = refl;
-        link-kept = link;
-        run-gone = λ least most. empty (within n least most);
-        empty-kept = λ is. all (ap goes is);
-        unsound-kept = λ is. all (ap goes is);
-        short-kept = λ is. all (ap goes is);
-      }
+  refusal-leaves loan n after link all empty =
+      record { buffer-kept = refl; no-reply = refl; no-order = refl; no-time = refl; link-kept = link; all-kept = all; run-gone = empty }
 
   ends-refused : (loan : Loan) {o : Outcome} {n : ℕ} → Ends card o n → (o .number ≡ 0 → ⊥) → Leaves card loan o
-  unfolding runGone
-  ends-refused loan (kept d out) some = refusal-leaves loan _ card refl (λ t. absurd (not-both out t)) (λ t. refl)
-  ends-refused loan (gone g) some = refusal-leaves loan _ (runGone _ card) refl (λ t. refl) (λ t. absurd (not-both t g))
+  unfolding leftWith
+  ends-refused loan (kept k d) some = refusal-leaves loan _ card refl (λ t. refl) (λ t. absurd (not-both t k))
+  ends-refused loan (damaged k d) some = refusal-leaves loan _ _ refl (λ t. absurd (not-both k t)) (λ t. refl)
+  ends-refused loan (gone k d) some = refusal-leaves loan _ _ refl (λ t. absurd (not-both k t)) (λ t. refl)
   ends-refused loan (answers e d) some = absurd (some e)
 
 pub condition-1 : Condition1 ourCard

@@ -1,87 +1,103 @@
 -- Condition 2: the card is the definition's, and every reply is a sound frame of at most 261 octets that gives back what was meant.
 -- What is remembered can be written from power-on on (an invariant), and what can be written is read back. Assumes nothing.
 use Prim.Native.Nat.{ℕ, _≤_}
-use mathlib.Core.Bool.{not}
-use mathlib.Core.List.{List, _++_}
+use mathlib.Core.List.{List}
 use mathlib.Core.Path.{_≡_, refl, ap, _∙_}
 use native.Mathlib.Omega.{arith}
-use lib.Dec.{ltb, eqb}
 use lib.ListN.{length, take, drop, length-take}
 use lib.Seq.{take-at}
-use borrow.Author.Tests.{eqb-false}
+use Rattle.octets.specs.Over.{laidIn}
+use Rattle.octets.specs.declared.Kept.{Kept}
+use Rattle.octets.specs.Keeping.{octetsOf}
+use Rattle.octets.specs.Choice.{if_then_else_}
 use Rattle.octets.proofs.Choice.{either}
 use Rattle.history.specs.Invariant.{Invariant}
 use Rattle.history.proofs.Invariant.{always, at-gaps}
+use Rattle.frame.specs.declared.Fault.{Fault}
+use Rattle.frame.specs.declared.Fault.the-variants.{Empty, Long, Malformed, Spoiled}
+use Rattle.frame.specs.declared.Reply.{Reply}
+use Rattle.frame.specs.declared.Service.{Service}
 use Rattle.frame.specs.Family.{sapr}
 use Rattle.frame.specs.Frame.{sound, judge}
-use Rattle.frame.specs.Writing.{userOf, replyFrame}
+use Rattle.frame.specs.Judging.{faultNumber}
+use Rattle.frame.specs.Writing.{replyFrame, replyOctets}
 use Rattle.frame.proofs.RoundTrip.{reply-back, reply-length}
-use Rattle.image.specs.Image.{soundImage}
-use Rattle.line.specs.declared.Examined.{Examined}
-use Rattle.line.specs.Examining.{numberOf, examined}
-use Rattle.line.proofs.Hearing.{flipped}
-use Rattle.link.specs.declared.Meant.{Meant}
-use Rattle.link.specs.declared.Answered.{Answered}
+use Rattle.collector.specs.Damage.{damages}
 use Rattle.link.specs.Answering.{answered}
 use Rattle.card.specs.declared.Card.{Card}
-use Rattle.card.specs.State.{cardAtPowerOn, withOctet, runGone, linkedBy}
-use Rattle.card.specs.Gap.{Outcome, refusal, octetsMeant, afterAnswer, afterExamining, gapped}
-use Rattle.tender.specs.Card.{Loan, outcomeAt, ours, ourCard}
+use Rattle.card.specs.declared.Examined.{Examined}
+use Rattle.card.specs.declared.Finding.{Finding}
+use Rattle.card.specs.declared.Finding.the-variants.{Asks}
+use Rattle.card.specs.State.{cardAtPowerOn, withOctet, leftWith, damagedBy}
+use Rattle.card.specs.Examining.{examined}
+use Rattle.card.specs.Gap.{Outcome, refusal, repliedBy}
+use Rattle.card.proofs.Gap.{End, short, unsound, faulty, other-link, not-offered, not-reset, replied, gap-end}
+use Rattle.tender.specs.Card.{Loan, Heard, outcomeAt, ours, ourCard}
 use Rattle.tender.specs.Condition2.{Condition2, meantAt, SoundReply, Lent, SoundReplies}
 use Rattle.tender.proofs.Writable.{CanWrite, Ready, AnswersReady, heard-short, power-on-ready, answered-ready}
 
 pub condition-2 : Condition2 ourCard
 condition-2 = record { powers-on = refl; as-defined = λ h. refl; left-as-defined = λ h. refl }
 
+-- with 0 a service was heard, and the reply is what was meant
+record Meets (card : Card) (loan : Loan) (o : Outcome) : Type 0 where
+  service : Service
+  user : Kept
+  heard : Heard card loan service user
+  reply : o .reply ≡ replyOctets (meantAt card loan service user)
+  can : CanWrite (meantAt card loan service user)
+
 -- what a gap leaves, and with 0 what it replies
-record Told (meant : Meant) (o : Outcome) : Type 0 where
+record Told (card : Card) (loan : Loan) (o : Outcome) : Type 0 where
   leaves : Ready (o .card .link)
-  replies : o .number ≡ 0 → (o .reply ≡ octetsMeant meant) × CanWrite meant
+  replies : o .number ≡ 0 → Meets card loan o
 
-module _ (card : Card) (meant : Meant) (ready : Ready (card .link)) where
-  refusal-told : (n : ℕ) → (n ≡ 0 → ⊥) → Told meant (refusal n card)
-  unfolding refusal
-  refusal-told n other = record { leaves = ready; replies = λ e. absurd (other e) }
+fault-some : (fault : Fault) → faultNumber fault ≡ 0 → ⊥
+fault-some Empty e = omega arith
+fault-some Long e = omega arith
+fault-some Malformed e = omega arith
+fault-some Spoiled e = omega arith
 
-  gone-told : (n : ℕ) → (n ≡ 0 → ⊥) → Told meant (refusal n (runGone n card))
-  unfolding refusal runGone
-  gone-told n other = record { leaves = ready; replies = λ e. absurd (other e) }
-
-answer-told : (card : Card) (a : Answered) → Ready (card .link) → AnswersReady a → Told (a .reply) (afterAnswer card a)
-unfolding afterAnswer linkedBy
-answer-told card a ready kept =
-    either (Told (a .reply)) (not (eqb (a .number) 0))
-    (λ t. gone-told card (a .reply) ready (a .number) (eqb-false _ _ (flipped _ _ t)))
-    (λ _. record { leaves = kept .link; replies = λ e. (refl, kept .reply) })
+-- a finding with its user octets is what was heard
+as-heard : (x : Examined) {service : Service} → x .finding ≡ Asks service → x ≡ record { finding = Asks service; user = x .user }
+as-heard x e = ap (λ (f : Finding). record { finding = f; user = x .user }) e
 
 module _ (card : Card) (loan : Loan) (lent : Lent loan) (ready : Ready (card .link)) where
-  abbrev image : List ℕ
-  image = loan .image
+  abbrev user : Kept
+  user = examined (card .collector) (loan .image) .user
 
-  abbrev clock : List ℕ
-  clock = loan .clock
+  ready-answer : (service : Service) → AnswersReady (answered (card .link) service user (loan .image) (loan .clock))
+  ready-answer service =
+      answered-ready (card .link) ready user (heard-short (card .collector) (loan .image)) (loan .image) (loan .clock) (lent .octets) (lent .seven) service
 
-  abbrev x : Examined
-  x = examined (card .collector) image
+  refusal-told : (n : ℕ) (after : Card) → (n ≡ 0 → ⊥) → Ready (after .link) → Told card loan (refusal n after)
+  unfolding refusal
+  refusal-told n after other kept = record { leaves = kept; replies = λ e. absurd (other e) }
 
-  abbrev ToldHere : Outcome → Type 0
-  ToldHere = Told (meantAt card loan)
+  end-told : {o : Outcome} → End card (loan .image) (loan .clock) (length (loan .buffer)) o → Told card loan o
+  unfolding damagedBy leftWith repliedBy
+  end-told (short h) = refusal-told 9 card (λ e. omega arith) ready
+  end-told (unsound h s) = refusal-told 8 card (λ e. omega arith) ready
+  end-told (faulty h s fault f) =
+      refusal-told (faultNumber fault) _ (fault-some fault) (either (λ (c : Card). Ready (c .link)) (damages fault) (λ _. ready) (λ _. ready))
+  end-told (other-link h s f) = refusal-told 5 _ (λ e. omega arith) ready
+  end-told (not-offered h s f) = refusal-told 6 _ (λ e. omega arith) ready
+  end-told (not-reset h s service f n) = refusal-told 7 _ (λ e. omega arith) (ready-answer service .link)
+  end-told (replied h s service f n) =
+      record {
+        leaves = ready-answer service .link;
+        replies = λ e.
+            record {
+              service = service;
+              user = user;
+              heard = as-heard (examined (card .collector) (loan .image)) f;
+              reply = refl;
+              can = ready-answer service .reply;
+            };
+      }
 
-  examined-told : ToldHere (afterExamining card x image clock)
-  unfolding afterExamining
-  examined-told =
-      either ToldHere (eqb (numberOf (x .finding)) 1) (λ _. refusal-told card (meantAt card loan) ready 1 (λ e. omega arith))
-      (λ _. either ToldHere (not (eqb (numberOf (x .finding)) 0))
-      (λ t. gone-told card (meantAt card loan) ready (numberOf (x .finding)) (eqb-false _ _ (flipped _ _ t)))
-      (λ _. answer-told card (answered (card .link) (x .frame) image clock) ready
-      (answered-ready (card .link) (x .frame) image clock (lent .octets) (lent .seven) (heard-short (card .collector) image) ready)))
-
-  gap-told : ToldHere (outcomeAt card loan)
-  unfolding gapped
-  gap-told =
-      either ToldHere (ltb (length (loan .buffer)) 261) (λ _. refusal-told card (meantAt card loan) ready 9 (λ e. omega arith))
-      (λ _. either ToldHere (not (soundImage image)) (λ _. refusal-told card (meantAt card loan) ready 8 (λ e. omega arith))
-      (λ _. examined-told))
+  gap-told : Told card loan (outcomeAt card loan)
+  gap-told = end-told (gap-end card (loan .image) (loan .clock) (length (loan .buffer)))
 
 -- from power-on on
 ready-always : Invariant ours Lent (λ (card : Card). Ready (card .link))
@@ -94,31 +110,33 @@ ready-always =
     }
 
 -- what can be written is read back
-module _ (meant : Meant) (can : CanWrite meant) where
-  few-users : length (userOf (meant .reply)) ≤ 252
-  few-users = omega (arith, length-take (meant .reply .users) (meant .reply .user), can .users)
+module _ (reply : Reply) (can : CanWrite reply) where
+  few-users : length (octetsOf (reply .user)) ≤ 252
+  unfolding octetsOf
+  few-users = omega (arith, length-take (reply .user .length) (reply .user .octets), can .users)
 
-  meant-back : judge sapr (octetsMeant meant) ≡ sound (replyFrame (meant .reply) (meant .link))
-  unfolding octetsMeant
-  meant-back = reply-back (meant .reply) (meant .link) (can .address) few-users
+  meant-back : judge sapr (replyOctets reply) ≡ sound (replyFrame reply)
+  meant-back = reply-back reply (can .address) few-users
 
-  meant-length : length (octetsMeant meant) ≤ 261
-  unfolding octetsMeant
-  meant-length = reply-length (meant .reply) (meant .link) (can .address) few-users
+  meant-length : length (replyOctets reply) ≤ 261
+  meant-length = reply-length reply (can .address) few-users
 
 -- the reply stands in the first octets of the buffer
-reply-seen : (octets buffer : List ℕ) → take (length octets) (octets ++ drop (length octets) buffer) ≡ octets
+reply-seen : (octets buffer : List ℕ) → take (length octets) (laidIn buffer octets) ≡ octets
 reply-seen octets buffer = take-at octets (drop (length octets) buffer) (length octets) refl
 
 sound-at : (card : Card) (loan : Loan) → Lent loan → Ready (card .link) → ours .gap card loan .answer .number ≡ 0 → SoundReply ours card loan
 sound-at card loan lent ready e =
     let o = outcomeAt card loan in
-    let told = gap-told card loan lent ready .replies e in
-    let stands : take (length (o .reply)) (o .reply ++ drop (length (o .reply)) (loan .buffer)) ≡ octetsMeant (meantAt card loan) =
-    reply-seen (o .reply) (loan .buffer) ∙ told .0 in
+    let m = gap-told card loan lent ready .replies e in
+    let meant = meantAt card loan (m .service) (m .user) in
+    let stands : take (length (o .reply)) (laidIn (loan .buffer) (o .reply)) ≡ replyOctets meant = reply-seen (o .reply) (loan .buffer) ∙ m .reply in
     record {
-      at-most-261 = omega (arith, ap (λ (l : List ℕ). length l) (told .0), meant-length (meantAt card loan) (told .1));
-      gives-back = ap (judge sapr) stands ∙ meant-back (meantAt card loan) (told .1);
+      service = m .service;
+      user = m .user;
+      heard = m .heard;
+      at-most-261 = omega (arith, ap (λ (l : List ℕ). length l) (m .reply), meant-length meant (m .can));
+      gives-back = ap (judge sapr) stands ∙ meant-back meant (m .can);
     }
 
 pub sound-replies : SoundReplies ourCard

@@ -1,75 +1,90 @@
 -- Condition 3 holds of our card: noise goes unnoticed; and a sound frame with exactly one octet changed is noise.
 -- By the laws of a deaf machine, kept being a collector that some run has left. Assumes nothing.
-use Prim.Native.Nat.{ℕ, _≤_, _<_}
-use mathlib.Core.Bool.{not, _||_}
+use Prim.Native.Nat.{ℕ, _<_}
+use mathlib.Core.Bool.{true, false, not, _||_}
 use mathlib.Core.List.{List, [], _∷_, _++_}
-use mathlib.Core.Path.{_≡_, refl, sym, ap, _∙_}
+use mathlib.Core.Path.{_≡_, refl, sym, ap, subst, _∙_}
 use native.Mathlib.Omega.{arith}
-use lib.Dec.{eqb, ltb}
+use lib.Dec.{ltb}
 use lib.ListN.{length, getD, set, length-set}
-use borrow.Author.Tests.{ne-eqb, eqb-true}
+use borrow.Author.Tests.{ne-eqb}
 use Rattle.octets.proofs.Choice.{either, if-both}
 use Rattle.octets.proofs.Numbers.{Octets}
+use Rattle.octets.specs.declared.Kept.{Kept}
 use Rattle.history.specs.History.{fed}
 use Rattle.history.specs.Invariant.{Invariant}
 use Rattle.history.specs.Noise.{Deaf}
 use Rattle.history.proofs.Noise.{unnoticed}
+use Rattle.frame.specs.declared.Fault.{Fault}
+use Rattle.frame.specs.declared.Fault.the-variants.{Empty, Long, Malformed, Spoiled}
+use Rattle.frame.specs.declared.Asked.{Asked}
+use Rattle.frame.specs.declared.Asked.the-variants as asked
+use Rattle.frame.specs.declared.Form.the-variants as form
 use Rattle.frame.specs.Family.{sapr}
-use Rattle.frame.specs.Frame.{Frame, Verdict, refused, sound, fixedForm, variableForm, startOf, sumRight, judge}
-use Rattle.frame.specs.Control.{offered}
+use Rattle.frame.specs.Frame.{Frame, fixed, variable, Verdict, refused, sound, fixedForm, variableForm, startOf, sumRight, judge}
+use Rattle.frame.specs.Judging.{faultNumber}
+use Rattle.frame.specs.Controls.{offered}
 use Rattle.frame.proofs.OneOctet.{one-octet-changed}
-use Rattle.parts.specs.Answers.{headFound}
+use Rattle.fields.specs.Answers.{identityFound}
 use Rattle.image.specs.Image.{soundImage}
-use Rattle.line.specs.declared.Collector.{Collector}
-use Rattle.line.specs.declared.Heard.{Heard}
-use Rattle.line.specs.declared.Examined.{Examined}
-use Rattle.line.specs.Collecting.{emptied, collected, collectedAll}
-use Rattle.line.specs.Examining.{numberOf, isLink, examinedFrame, examinedVerdict, examined}
-use Rattle.line.proofs.Collecting.{collected-verdict}
-use Rattle.line.proofs.Examining.{refused-number, run-only}
+use Rattle.collector.specs.declared.Collector.{Collector}
+use Rattle.collector.specs.Collecting.{emptied, collected, collectedAll}
+use Rattle.collector.specs.Damage.{damages}
 use Rattle.link.specs.declared.Link.{Link}
+use Rattle.link.specs.declared.Sends.{Sends}
+use Rattle.link.specs.declared.Sends.the-variants.{NotReset, Remembered, Status}
 use Rattle.link.specs.declared.Answered.{Answered}
 use Rattle.link.specs.Answering.{answered}
 use Rattle.card.specs.declared.Card.{Card}
-use Rattle.card.specs.State.{cardAtPowerOn, collecting, withOctet, runGone, linkedBy}
-use Rattle.card.specs.Gap.{refusal, afterAnswer, afterExamining, gapped}
+use Rattle.card.specs.declared.Examined.{Examined}
+use Rattle.card.specs.declared.Finding.{Finding}
+use Rattle.card.specs.declared.Finding.the-variants.{Faulty, OtherLink, NotOffered, Asks}
+use Rattle.card.specs.State.{cardAtPowerOn, collecting, withOctet, leftWith, damagedBy}
+use Rattle.card.specs.Examining.{isLink, heard, examinedFrame, examinedVerdict, examined}
+use Rattle.card.specs.Gap.{refusal, repliedBy, afterSending, afterAnswer, afterFinding, afterExamining, gapped}
 use Rattle.card.specs.Gap as gap
-use Rattle.card.proofs.Gap.{examined-refused}
+use Rattle.card.proofs.Examining.{run-only}
 use Rattle.tender.specs.Card.{Loan, seenOf, outcomeAt, ours, ourCard}
 use Rattle.tender.specs.Condition3.{Fit, Noise, Alike, Mute, Condition3, OneOctetNoise}
-use Rattle.tender.proofs.Gaps.{fed-rested, fit-gap}
+use Rattle.tender.proofs.Gaps.{fit-gap, rested-gap}
 
--- a run that is not empty is refused by 2, 3 or 4 only
+-- a run that is not empty is sound or damaged
 abbrev Damaged : Verdict → Type 0
-Damaged (refused n) = (2 ≤ n) × (n ≤ 4)
+Damaged (refused fault) = damages fault ≡ true
 Damaged (sound f) = Unit {0}
 
 judge-damaged : (run : List ℕ) → (length run ≡ 0 → ⊥) → Damaged (judge sapr run)
 unfolding judge
 judge-damaged run some =
     rw (ne-eqb (length run) 0 some)
-    (either Damaged (ltb 261 (length run)) (λ e. (omega arith, omega arith)) (λ e.
-    either Damaged (not (fixedForm sapr run || variableForm sapr run)) (λ e. (omega arith, omega arith)) (λ e.
-    either Damaged (not (sumRight (startOf sapr run) run)) (λ e. (omega arith, omega arith)) (λ e. tt))))
+    (either Damaged (ltb 261 (length run)) (λ e. refl) (λ e.
+    either Damaged (not (fixedForm sapr run || variableForm sapr run)) (λ e. refl) (λ e.
+    either Damaged (not (sumRight (startOf sapr run) run)) (λ e. refl) (λ e. tt))))
 
--- and is not examined as an empty one
-abbrev NotEmpty : Examined → Type 0
-NotEmpty x = numberOf (x .finding) ≡ 1 → ⊥
+-- a finding that changes nothing is that of an empty run
+abbrev Ends : Finding → Type 0
+Ends (Faulty fault) = damages fault ≡ true
+Ends OtherLink = Unit {0}
+Ends NotOffered = Unit {0}
+Ends (Asks service) = Unit {0}
 
-frame-some : (image : List ℕ) (frame : Heard) → NotEmpty (examinedFrame image frame)
+abbrev ExaminedEnds : Examined → Type 0
+ExaminedEnds x = Ends (x .finding)
+
+asked-ends : (a : Asked) (user : List ℕ) → ExaminedEnds (heard a user)
+asked-ends asked.NotOffered user = tt
+asked-ends (asked.Is service) user = tt
+
+verdict-ends : (image : List ℕ) (v : Verdict) → Damaged v → ExaminedEnds (examinedVerdict image v)
 unfolding examinedFrame
-frame-some image frame =
-    either NotEmpty (not (isLink (headFound image) (frame .link))) (λ l e. omega arith) (λ l.
-    either NotEmpty (eqb (offered (frame .form) (frame .control) .number) 6) (λ o e. omega arith) (λ o e. omega arith))
+verdict-ends image (refused fault) d = d
+verdict-ends image (sound (fixed c a)) d =
+    either ExaminedEnds (not (isLink (identityFound image) (record { 0 = a }))) (λ l. tt) (λ l. asked-ends (offered form.Fixed c) [])
+verdict-ends image (sound (variable c a user)) d =
+    either ExaminedEnds (not (isLink (identityFound image) (record { 0 = a }))) (λ l. tt) (λ l. asked-ends (offered form.Variable c) user)
 
-module _ (run image : List ℕ) (some : length run ≡ 0 → ⊥) where
-  examined-some : NotEmpty (examined (collectedAll emptied run) image)
-  examined-some = by-verdict (judge sapr run) refl (judge-damaged run some)
-    where
-      by-verdict : (v : Verdict) → judge sapr run ≡ v → Damaged v → NotEmpty (examined (collectedAll emptied run) image)
-      by-verdict (refused n) e d one = omega (arith, d .0, one, refused-number (collectedAll emptied run) image n (collected-verdict sapr run ∙ e))
-      by-verdict (sound f) e d one =
-          frame-some image _ (ap (λ (x : Examined). numberOf (x .finding)) (ap (examinedVerdict image) (sym e) ∙ sym (run-only run image)) ∙ one)
+examined-ends : (run image : List ℕ) → (length run ≡ 0 → ⊥) → ExaminedEnds (examined (collectedAll emptied run) image)
+examined-ends run image some = rw (run-only run image) (verdict-ends image (judge sapr run) (judge-damaged run some))
 
 -- a collector that a run has left
 pub record Left (c : Collector) : Type 0 where
@@ -85,31 +100,45 @@ pub left-none : Left emptied
 unfolding collectedAll
 left-none = record { run = []; by-run = refl }
 
--- what a gap leaves of the collector: nothing, or at number 1 what there was
+-- what a gap leaves of the collector: nothing, unless the run was empty
 abbrev Rests : gap.Outcome → Type 0
 Rests o = o .card .collector ≡ emptied
 
 module _ (card : Card) (image clock : List ℕ) where
   answer-rests : (a : Answered) → Rests (afterAnswer card a)
-  unfolding afterAnswer refusal runGone linkedBy
-  answer-rests a = either Rests (not (eqb (a .number) 0)) (λ e. refl) (λ e. refl)
+  unfolding afterAnswer refusal repliedBy leftWith
+  answer-rests a = by-sends (a .sends)
+    where
+      by-sends : (sends : Sends) → Rests (afterSending card a sends)
+      by-sends NotReset = refl
+      by-sends Remembered = refl
+      by-sends (Status address) = refl
 
-  examining-rests : (x : Examined) → (numberOf (x .finding) ≡ 1 → card .collector ≡ emptied) → Rests (afterExamining card x image clock)
-  unfolding afterExamining refusal runGone
-  examining-rests x none =
-      either Rests (eqb (numberOf (x .finding)) 1) (λ e. none (eqb-true _ _ e)) (λ e.
-      either Rests (not (eqb (numberOf (x .finding)) 0)) (λ e. refl) (λ e. answer-rests (answered (card .link) (x .frame) image clock)))
+  finding-rests : (f : Finding) (user : Kept) → Ends f → Rests (afterFinding card f user image clock)
+  unfolding refusal damagedBy leftWith
+  finding-rests (Faulty fault) user d = rw d
+  finding-rests OtherLink user d = refl
+  finding-rests NotOffered user d = refl
+  finding-rests (Asks service) user d = answer-rests (answered (card .link) service user image clock)
+
+  -- an empty collector stays one
+  empty-rests : (f : Finding) (user : Kept) → card .collector ≡ emptied → Rests (afterFinding card f user image clock)
+  unfolding refusal damagedBy leftWith
+  empty-rests (Faulty fault) user none = either (λ (c : Card). c .collector ≡ emptied) (damages fault) (λ _. refl) (λ _. none)
+  empty-rests OtherLink user none = refl
+  empty-rests NotOffered user none = refl
+  empty-rests (Asks service) user none = answer-rests (answered (card .link) service user image clock)
 
 -- at a fit gap a card that a run has left comes to rest
 pub left-rests : (card : Card) (loan : Loan) {image clock : List ℕ} → Fit image clock loan → Left (card .collector) → Rests (outcomeAt card loan)
-unfolding collectedAll
-left-rests card loan {image} {clock} f left =
-    rw (fit-gap f card) (examining-rests card image clock (examined (card .collector) image) (λ one. by-octets (left .run) (left .by-run) one))
+unfolding collectedAll afterExamining
+left-rests card loan {image} {clock} f left = rw (fit-gap f card) (by-octets (left .run) (left .by-run))
   where
-    by-octets : (run : List ℕ) → card .collector ≡ collectedAll emptied run → numberOf (examined (card .collector) image .finding) ≡ 1
-        → card .collector ≡ emptied
-    by-octets [] e one = e
-    by-octets (x ∷ run) e one = absurd (examined-some (x ∷ run) image (λ h. omega arith) (rw e at one))
+    by-octets : (run : List ℕ) → card .collector ≡ collectedAll emptied run → Rests (afterExamining card (examined (card .collector) image) image clock)
+    by-octets [] e = empty-rests card image clock (examined (card .collector) image .finding) (examined (card .collector) image .user) e
+    by-octets (x ∷ run) e =
+        finding-rests card image clock (examined (card .collector) image .finding) (examined (card .collector) image .user)
+        (rw e (examined-ends (x ∷ run) image (λ h. omega arith)))
 
 pub left-kept : (image clock : List ℕ) → Invariant ours (Fit image clock) (λ (card : Card). Left (card .collector))
 unfolding withOctet
@@ -140,68 +169,80 @@ unfolding refusal
 alike-refusal number s t a = record { numbers = refl; replies = refl; orders = refl; times = refl; cards = a }
 
 module _ (s t : Card) (a : Alike s t) where
-  alike-gone : (number : ℕ) → AlikeOutcomes (refusal number (runGone number s)) (refusal number (runGone number t))
-  unfolding runGone
-  alike-gone number = alike-refusal number (runGone number s) (runGone number t) (record { collectors = refl; links = a .links })
+  alike-left : (number : ℕ) (link : Link) → AlikeOutcomes (refusal number (leftWith link s)) (refusal number (leftWith link t))
+  unfolding leftWith
+  alike-left number link = alike-refusal number (leftWith link s) (leftWith link t) (record { collectors = refl; links = refl })
+
+  alike-kept : (number : ℕ) → AlikeOutcomes (refusal number (leftWith (s .link) s)) (refusal number (leftWith (t .link) t))
+  alike-kept number =
+      subst (λ (l : Link). AlikeOutcomes (refusal number (leftWith l s)) (refusal number (leftWith (t .link) t))) (sym (a .links)) (alike-left number (t .link))
+
+  alike-damaged : (fault : Fault) → Alike (damagedBy fault s) (damagedBy fault t)
+  unfolding damagedBy
+  alike-damaged fault = if-both Alike (damages fault) (λ e. record { collectors = refl; links = a .links }) (λ e. a)
 
   alike-answer : (x : Answered) → AlikeOutcomes (afterAnswer s x) (afterAnswer t x)
-  unfolding afterAnswer linkedBy runGone
-  alike-answer x =
-      if-both AlikeOutcomes (not (eqb (x .number) 0)) (λ e. alike-gone (x .number))
-      (λ e. record { numbers = refl; replies = refl; orders = refl; times = refl; cards = record { collectors = refl; links = refl } })
+  unfolding afterAnswer repliedBy leftWith
+  alike-answer x = by-sends (x .sends)
+    where
+      by-sends : (sends : Sends) → AlikeOutcomes (afterSending s x sends) (afterSending t x sends)
+      by-sends NotReset = alike-left 7 (x .link)
+      by-sends Remembered = record { numbers = refl; replies = refl; orders = refl; times = refl; cards = record { collectors = refl; links = refl } }
+      by-sends (Status address) = record { numbers = refl; replies = refl; orders = refl; times = refl; cards = record { collectors = refl; links = refl } }
 
-  alike-examining : (x : Examined) (image clock : List ℕ) → AlikeOutcomes (afterExamining s x image clock) (afterExamining t x image clock)
-  unfolding afterExamining
-  alike-examining x image clock =
-      if-both AlikeOutcomes (eqb (numberOf (x .finding)) 1) (λ e. alike-refusal 1 s t a) (λ e.
-      if-both AlikeOutcomes (not (eqb (numberOf (x .finding)) 0)) (λ e. alike-gone (numberOf (x .finding))) (λ e.
-      rw (ap (λ (l : Link). answered l (x .frame) image clock) (a .links)) (alike-answer (answered (t .link) (x .frame) image clock))))
+  alike-finding : (f : Finding) (user : Kept) (image clock : List ℕ) → AlikeOutcomes (afterFinding s f user image clock) (afterFinding t f user image clock)
+  alike-finding (Faulty fault) user image clock = alike-refusal (faultNumber fault) _ _ (alike-damaged fault)
+  alike-finding OtherLink user image clock = alike-kept 5
+  alike-finding NotOffered user image clock = alike-kept 6
+  alike-finding (Asks service) user image clock =
+      rw (ap (λ (l : Link). answered l service user image clock) (a .links)) (alike-answer (answered (t .link) service user image clock))
 
   alike-gap : (loan : Loan) → AlikeOutcomes (outcomeAt s loan) (outcomeAt t loan)
-  unfolding gapped
+  unfolding gapped afterExamining
   alike-gap loan =
       if-both AlikeOutcomes (ltb (length (loan .buffer)) 261) (λ e. alike-refusal 9 s t a) (λ e.
       if-both AlikeOutcomes (not (soundImage (loan .image))) (λ e. alike-refusal 8 s t a) (λ e.
       rw (ap (λ (c : Collector). examined c (loan .image)) (a .collectors))
-      (alike-examining (examined (t .collector) (loan .image)) (loan .image) (loan .clock))))
+      (alike-finding (examined (t .collector) (loan .image) .finding) (examined (t .collector) (loan .image) .user) (loan .image) (loan .clock))))
 
--- noise, and the number that refuses it
+-- noise, and the fault by which it is refused
 record Refused (run : List ℕ) : Type 0 where
-  number : ℕ
-  says : judge sapr run ≡ refused number
-  low : 2 ≤ number
-  high : number ≤ 4
+  fault : Fault
+  says : judge sapr run ≡ refused fault
+  damaged : damages fault ≡ true
 
 noise-refused : (run : List ℕ) → Noise run → Refused run
 noise-refused run x = by-verdict (judge sapr run) refl (judge-damaged run (x .some))
   where
     by-verdict : (v : Verdict) → judge sapr run ≡ v → Damaged v → Refused run
-    by-verdict (refused n) e d = record { number = n; says = e; low = d .0; high = d .1 }
+    by-verdict (refused fault) e d = record { fault = fault; says = e; damaged = d }
     by-verdict (sound f) e d = absurd (x .not-sound f e)
+
+fault-some : (fault : Fault) → faultNumber fault ≡ 0 → ⊥
+fault-some Empty e = omega arith
+fault-some Long e = omega arith
+fault-some Malformed e = omega arith
+fault-some Spoiled e = omega arith
 
 -- what a gap after noise answers and leaves
 noise-gap : (card : Card) (run : List ℕ) (loan : Loan) {image clock : List ℕ} → card .collector ≡ emptied → (r : Refused run) → Fit image clock loan
-    → outcomeAt (fed ours card run) loan ≡ refusal (r .number) (runGone (r .number) card)
-unfolding runGone
-noise-gap card run loan {image} {clock} rest r f =
-    let full = collecting (collectedAll emptied run) card in
-    let number : numberOf (examined (collectedAll emptied run) image .finding) ≡ r .number =
-    refused-number (collectedAll emptied run) image (r .number) (collected-verdict sapr run ∙ r .says) in
-    let found = examined (collectedAll emptied run) image in
-    let refused = examined-refused full found image clock (λ e. omega (arith, e, number, r .low)) (λ e. omega (arith, e, number, r .low)) in
-    rw (fed-rested run card rest, fit-gap f full, refused, number)
+    → outcomeAt (fed ours card run) loan ≡ refusal (faultNumber (r .fault)) (damagedBy (r .fault) (collecting (collectedAll emptied run) card))
+unfolding afterExamining
+noise-gap card run loan rest r f = rested-gap f card run rest (refused (r .fault)) (r .says)
 
 noise-mute : (card : Card) (run : List ℕ) (loan : Loan) {image clock : List ℕ} → card .collector ≡ emptied → Noise run → Fit image clock loan
     → Mute (ours .gap (fed ours card run) loan .answer)
 unfolding refusal
 noise-mute card run loan rest x f =
     let r = noise-refused run x in
-    rw (noise-gap card run loan rest r f) (record { not-0 = λ e. omega (arith, e, r .low); no-reply = refl; no-order = refl; no-time = refl })
+    rw (noise-gap card run loan rest r f) (record { not-0 = fault-some (r .fault); no-reply = refl; no-order = refl; no-time = refl })
 
 noise-alike : (card : Card) (run : List ℕ) (loan : Loan) {image clock : List ℕ} → card .collector ≡ emptied → Noise run → Fit image clock loan
     → Alike card (ours .gap (fed ours card run) loan .state)
-unfolding refusal runGone
-noise-alike card run loan rest x f = rw (noise-gap card run loan rest (noise-refused run x) f) (record { collectors = rest; links = refl })
+unfolding refusal damagedBy
+noise-alike card run loan rest x f =
+    let r = noise-refused run x in
+    rw (noise-gap card run loan rest r f, r .damaged) (record { collectors = rest; links = refl })
 
 deaf : (image clock : List ℕ)
     → Deaf ours (Fit image clock) Noise (λ (card : Card). Left (card .collector)) Alike (λ (card : Card). card .collector ≡ emptied) Mute

@@ -4,10 +4,10 @@ use Prim.Native.Nat.{ℕ}
 use mathlib.Core.List.{List, [], _∷_}
 use lib.ListN.{set, replicate}
 use Rattle.history.specs.History.{fed, closedRun}
-use Rattle.request.specs.declared.Session.{Session}
-use Rattle.request.specs.declared.Session.the-variants.{Closed, Open}
-use Rattle.carrying.specs.declared.Order.{Order}
-use Rattle.carrying.specs.declared.Order.the-variants as order
+use Rattle.rules.specs.declared.Session.{Session}
+use Rattle.rules.specs.declared.Session.the-variants.{Closed, Open}
+use Rattle.deeds.specs.declared.Order.{Order}
+use Rattle.deeds.specs.declared.Order.the-variants as order
 use Rattle.link.specs.State.{powerOn}
 use Rattle.card.specs.declared.Card.{Card}
 use Rattle.card.specs.State.{cardAtPowerOn}
@@ -50,14 +50,14 @@ ack =
     record {
       number = 0;
       count = 6;
-      order = order.Nothing;
+      order = order.NoOrder;
       time = replicate 10 0;
       buffer = 0x10 ∷ 0x00 ∷ 0x01 ∷ 0x00 ∷ 0x01 ∷ 0x16 ∷ replicate 255 0;
     }
 
 -- and what noise gets: a number
 abbrev pub unanswered : ℕ → Seen
-unanswered number = record { number = number; count = 0; order = order.Nothing; time = replicate 10 0; buffer = replicate 261 0 }
+unanswered number = record { number = number; count = 0; order = order.NoOrder; time = replicate 10 0; buffer = replicate 261 0 }
 
 -- a collector that no run has left: it holds none, but not zeros
 abbrev pub odd : Card
@@ -76,9 +76,9 @@ firstNumber [] = 99
 firstNumber (seen ∷ rest) = seen .number
 
 abbrev pub orderNumber : Order → ℕ
-orderNumber order.Nothing = 0
-orderNumber order.Clock = 1
-orderNumber order.Dates = 2
+orderNumber order.NoOrder = 0
+orderNumber order.SetClock = 1
+orderNumber order.SetDates = 2
 
 abbrev pub firstOrder : List Seen → ℕ
 firstOrder [] = 99

@@ -7,10 +7,10 @@ use lib.ListN.{length}
 use Rattle.history.specs.History.{fed}
 use Rattle.frame.specs.Family.{sapr}
 use Rattle.frame.specs.Frame.{Verdict, judge}
-use Rattle.line.specs.declared.Collector.{Collector}
-use Rattle.line.specs.Collecting.{emptied, collectedAll}
-use Rattle.line.specs.Examining.{examined, examinedVerdict}
-use Rattle.line.proofs.Examining.{run-only}
+use Rattle.collector.specs.declared.Collector.{Collector}
+use Rattle.collector.specs.Collecting.{emptied, collectedAll}
+use Rattle.card.specs.Examining.{examined, examinedVerdict}
+use Rattle.card.proofs.Examining.{run-only}
 use Rattle.card.specs.declared.Card.{Card}
 use Rattle.card.specs.State.{collecting}
 use Rattle.card.specs.Gap.{afterExamining}

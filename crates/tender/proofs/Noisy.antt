@@ -1,7 +1,7 @@
 -- Condition 3's hypotheses can be met: over document 01's smallest image, a reset with each kind of noise put in around it, and a
 -- frame received again. By computation, and by the laws that say of each kind that it is noise. Assumes nothing.
 use Prim.Native.Nat.{ℕ, zero, suc, _≤_}
-use mathlib.Core.Bool.{Bool, true}
+use mathlib.Core.Bool.{Bool, true, false, false≢true}
 use mathlib.Core.List.{List, [], _∷_}
 use mathlib.Core.Path.{_≡_, refl, sym, ap, _∙_}
 use native.Mathlib.Omega.{arith}
@@ -10,10 +10,15 @@ use Rattle.octets.proofs.Numbers.{Octets}
 use Rattle.history.specs.History.{closedRun, AllFit}
 use Rattle.history.specs.Noise.{Noised, Deaf}
 use Rattle.history.specs.Noise as N
+use Rattle.frame.specs.declared.Fault.{Fault}
+use Rattle.frame.specs.declared.Fault.the-variants.{Long, Malformed, Spoiled}
+use Rattle.frame.specs.declared.Service.the-variants.{Collection}
 use Rattle.frame.specs.Family.{sapr}
+use Rattle.frame.specs.Controls.{collects}
 use Rattle.frame.specs.Frame.{fixed, Verdict, refused, sound, judge}
 use Rattle.frame.proofs.Frame.{judge-empty, judge-long}
-use Rattle.line.specs.declared.Collector.{Collector}
+use Rattle.collector.specs.declared.Collector.{Collector}
+use Rattle.collector.specs.Damage.{damages}
 use Rattle.card.specs.declared.Card.{Card}
 use Rattle.tender.specs.Card.{replyIn, History, answersOf, endOf, received, ours, ourCard}
 use Rattle.tender.specs.Condition3.{Fit, Noise, Alike, Mute, Undisturbed, Counting, Again}
@@ -24,28 +29,28 @@ use Rattle.tender.proofs.Smallest.{fit}
 use Rattle.tender.proofs.Examples.{asking, long, malformed, spoiled, changed, quiet, noisy, ack, unanswered, odd, ready, nothingToGive}
 use Rattle.tender.proofs.Worked.{everything}
 
--- a run that is refused, and not by 1, is noise
-pub refused-noise : (run : List ℕ) (n : ℕ) → judge sapr run ≡ refused n → 2 ≤ n → Noise run
-refused-noise run n e h =
+-- a run that is damaged is noise
+pub refused-noise : (run : List ℕ) (fault : Fault) → judge sapr run ≡ refused fault → damages fault ≡ true → Noise run
+refused-noise run fault e d =
     record {
-      some = λ none. omega (arith, h, ap numberIn (sym (judge-empty sapr run none) ∙ e));
-      not-sound = λ f e′. omega (arith, h, ap numberIn (sym e ∙ e′));
+      some = λ none. false≢true (ap damaged (sym (judge-empty sapr run none) ∙ e) ∙ d);
+      not-sound = λ f e′. false≢true (ap damaged (sym e′ ∙ e) ∙ d);
     }
   where
-    numberIn : Verdict → ℕ
-    numberIn (refused n) = n
-    numberIn (sound f) = 0
+    damaged : Verdict → Bool
+    damaged (refused why) = damages why
+    damaged (sound f) = false
 
 long-noise : Noise long
-long-noise = refused-noise _ 2 (judge-long sapr (replicate 262 0x10) (omega (arith, length-replicate {A = ℕ} 262 0x10))) (omega arith)
+long-noise = refused-noise _ Long (judge-long sapr (replicate 262 0x10) (omega (arith, length-replicate {A = ℕ} 262 0x10))) refl
 
 malformed-noise : Noise malformed
 unfolding everything
-malformed-noise = refused-noise _ 3 refl (omega arith)
+malformed-noise = refused-noise _ Malformed refl refl
 
 spoiled-noise : Noise spoiled
 unfolding everything
-spoiled-noise = refused-noise _ 4 refl (omega arith)
+spoiled-noise = refused-noise _ Spoiled refl refl
 
 reset-sound : judge sapr reset ≡ sound (fixed 0x40 1)
 unfolding everything
@@ -81,7 +86,7 @@ unheard = condition-3 smallest (lent .clock) quiet noisy put-in
 
 pub counting : Counting asking
 unfolding everything
-counting = record { frame = fixed 0x7B 1; is-sound = refl; not-reset = λ e. omega arith; not-status = λ e. omega arith }
+counting = record { frame = fixed 0x7B 1; service = Collection 1; bit = 1; is-sound = refl; asks = refl; counts = collects }
 
 -- so, of all that the noisy history gets, the ACK is what is left
 quiet-answers : answersOf ourCard quiet ≡ ack ∷ []

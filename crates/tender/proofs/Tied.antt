@@ -33,7 +33,7 @@ octets-tied κs card octets r s allowed = allowed ∙ octets-are-ours (now octet
 gap-is-ours : (card : Card) (loan : Loan) (gone : Gone) (left : List ℕ) → Gapped (outcomeAt card loan) (loan .buffer) gone left
     → outcomeBy gone left ≡ ours .gap card loan
 unfolding goneBy
-gap-is-ours card loan gone left g = rw (g .returns, g .leaves)
+gap-is-ours card loan gone left g = rw (g .answers, g .left-so)
 
 -- the buffer is the fourth argument: `s` has them as they are at exit
 pub gap-tied : GapTied (λ κs s. now (s .1 .1 .1 .0)) card-gap.Post

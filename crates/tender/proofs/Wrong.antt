@@ -6,16 +6,21 @@ use mathlib.Core.List.{List, [], _∷_}
 use mathlib.Core.Path.{_≡_, refl, sym, ap, _∙_}
 use native.Mathlib.Omega.{arith}
 use lib.ListN.{getD}
-use Rattle.history.specs.History.{Outcome, answers, after, fed}
+use Rattle.octets.specs.Choice.{if_then_else_}
+use Rattle.octets.specs.Keeping.{keptOf}
+use Rattle.frame.specs.declared.Fault.the-variants.{Malformed}
+use Rattle.frame.specs.declared.Service.the-variants.{Collection}
+use Rattle.frame.specs.Controls.{collects}
+use Rattle.history.specs.History.{Stepped, answers, after, fed}
 use Rattle.history.specs.Noise.{Noised, noise, end, remaining}
-use Rattle.line.specs.declared.Collector.{Collector}
-use Rattle.line.specs.Damage.{damagedAfter}
+use Rattle.collector.specs.declared.Collector.{Collector}
+use Rattle.collector.specs.Damage.{oneMore}
 use Rattle.link.specs.declared.Link.{Link}
 use Rattle.card.specs.declared.Card.{Card}
 use Rattle.card.specs.State.{cardAtPowerOn}
-use Rattle.tender.specs.Card.{Seen, AnyCard, History, answersOf, endOf, received, ourCard}
-use Rattle.tender.specs.Condition1.{Condition1, Counted}
-use Rattle.tender.specs.Condition2.{Condition2, askedAt, CountBit}
+use Rattle.tender.specs.Card.{Seen, AnyCard, History, answersOf, endOf, Heard, received, ourCard}
+use Rattle.tender.specs.Condition1.{isDamage, Condition1, Counted}
+use Rattle.tender.specs.Condition2.{Condition2, CountBit}
 use Rattle.tender.specs.Condition3.{Fit, Noise, Undisturbed, Condition3, Again, Repeats}
 use Rattle.tender.specs.Cases.{smallest, lent, reset, collect, password}
 use Rattle.tender.specs.Wrong.{refuser, acknowledger, idler, repeater, politeRepeater, stone, resetter, opener, closer}
@@ -114,7 +119,7 @@ leaves-time-octets c = omega (arith, firstOctet (c .refused cardAtPowerOn lent (
 pub keeps-the-run : Condition1 hoarder → ⊥
 unfolding everything
 keeps-the-run c =
-    let gone = c .refused malformedCard lent (λ e. omega (arith, e, refused-by)) .run-gone (omega (arith, refused-by)) (omega (arith, refused-by)) in
+    let gone = c .refused malformedCard lent (λ e. omega (arith, e, refused-by)) .run-gone refl in
     omega (arith, sym three-octets ∙ ap (λ (collector : Collector). collector .length) gone)
   where
     refused-by : hoarder .calls .gap malformedCard lent .answer .number ≡ 3
@@ -136,18 +141,18 @@ invents-a-count c = omega (arith, sym its-count ∙ c .counts cardAtPowerOn lent
     its-count : inventor .calls .gap cardAtPowerOn lent .state .damaged ≡ 7
     its-count = refl
 
-    right-count : damagedAfter (cardAtPowerOn .damaged) (inventor .calls .gap cardAtPowerOn lent .answer .number) ≡ 0
+    right-count : (if isDamage (inventor .calls .gap cardAtPowerOn lent .answer .number) then oneMore (cardAtPowerOn .damaged) else cardAtPowerOn .damaged) ≡ 0
     right-count = refl
 
 -- by condition 2's count bit: with a new FCB it only repeats
 pub ignores-the-bit : CountBit repeater → ⊥
 unfolding everything
 ignores-the-bit c =
-    let last = c .becomes-last (fed (repeater .calls) afterFirst asking) lent answered (eleven 0 (λ z. omega (arith, z))) (eleven 9 (λ z. omega (arith, z))) in
-    omega (arith, sym bit-kept ∙ last ∙ ap (λ (values : List ℕ). getD values 1 0) asked)
+    let last = c (fed (repeater .calls) afterFirst asking) lent (Collection 1) (keptOf []) 1 heard collects answered in
+    omega (arith, sym bit-kept ∙ last)
   where
-    asked : askedAt (fed (repeater .calls) afterFirst asking) lent ≡ 11 ∷ 1 ∷ []
-    asked = refl
+    heard : Heard (fed (repeater .calls) afterFirst asking) lent (Collection 1) (keptOf [])
+    heard = refl
 
     answered : repeater .calls .gap (fed (repeater .calls) afterFirst asking) lent .answer .number ≡ 0
     answered = refl
@@ -155,13 +160,10 @@ ignores-the-bit c =
     bit-kept : repeater .calls .gap (fed (repeater .calls) afterFirst asking) lent .state .link .fcb ≡ 0
     bit-kept = refl
 
-    eleven : (n : ℕ) → (11 ≡ n → ⊥) → getD (askedAt (fed (repeater .calls) afterFirst asking) lent) 0 0 ≡ n → ⊥
-    eleven n other e = other (sym (ap (λ (values : List ℕ). getD values 0 0) asked) ∙ e)
-
 -- by condition 3, with one run put in behind a reset
 one-octet : Noise (0 ∷ [])
 unfolding everything
-one-octet = refused-noise (0 ∷ []) 3 refl (omega arith)
+one-octet = refused-noise (0 ∷ []) Malformed refl refl
 
 abbrev put-in : Noised (Fit smallest (lent .clock)) Noise true opened oneOctetIn
 put-in = in-both reset (noise (0 ∷ []) lent one-octet fit (in-both password (in-both collect end)))
@@ -198,7 +200,7 @@ never-answers c = omega (arith, other-remaining c firstNumber 3 0 refl refl)
 
 -- by its last sentence: a collection that the definition answers by 09, received again
 module _ (c : AnyCard) where
-  abbrev first : Outcome Card Seen
+  abbrev first : Stepped Card Seen
   first = received (c .calls) (endOf c quiet) asking lent
 
   twice : Repeats c → Again first (received (c .calls) (first .state) asking lent) (lent .buffer)

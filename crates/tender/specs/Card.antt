@@ -1,13 +1,19 @@
 -- Any card: how it powers on, and what an octet and a gap do to it, on the card's types; and ours, which is what the contracts of the crate
 -- `card` say (`Tied`). Assumes nothing.
 use Prim.Native.Nat.{ℕ}
-use mathlib.Core.List.{List, _++_}
-use lib.ListN.{length, take, drop, replicate}
-use Rattle.history.specs.History.{Event, Outcome, Machine, answers, after, fed}
-use Rattle.carrying.specs.declared.Order.{Order}
-use Rattle.carrying.specs.declared.Order.the-variants.{Nothing}
+use mathlib.Core.List.{List}
+use mathlib.Core.Path.{_≡_}
+use lib.ListN.{length, take, replicate}
+use Rattle.octets.specs.Over.{laidIn}
+use Rattle.octets.specs.declared.Kept.{Kept}
+use Rattle.frame.specs.declared.Service.{Service}
+use Rattle.history.specs.History.{Event, Stepped, Machine, answers, after, fed}
+use Rattle.deeds.specs.declared.Order.{Order}
+use Rattle.deeds.specs.declared.Order.the-variants.{NoOrder}
 use Rattle.card.specs.declared.Card.{Card}
+use Rattle.card.specs.declared.Finding.the-variants.{Asks}
 use Rattle.card.specs.State.{cardAtPowerOn, withOctet}
+use Rattle.card.specs.Examining.{examined}
 use Rattle.card.specs.Gap.{gapped}
 use Rattle.card.specs.Gap as gap
 
@@ -53,15 +59,19 @@ abbrev pub endOf : AnyCard → History → Card
 endOf c h = after (c .calls) (c .powerOn) h
 
 -- a run is received: its octets are put in, and the gap comes
-abbrev pub received : Calls → Card → List ℕ → Loan → Outcome Card Seen
+abbrev pub received : Calls → Card → List ℕ → Loan → Stepped Card Seen
 received m card run loan = m .gap (fed m card run) loan
 
+-- the run is examined, and a service for this card is heard, with these user octets
+abbrev pub Heard : Card → Loan → Service → Kept → Type 0
+Heard card loan service user = examined (card .collector) (loan .image) ≡ record { finding = Asks service; user = user }
+
 -- a card is left, and a number and a reply are seen, in the first octets of the buffer; the rest of it is unchanged, and there is no order
-abbrev pub says : Card → ℕ → List ℕ → List ℕ → Outcome Card Seen
+abbrev pub says : Card → ℕ → List ℕ → List ℕ → Stepped Card Seen
 says card number reply buffer =
     record {
       state = card;
-      answer = record { number = number; count = length reply; order = Nothing; time = noTime; buffer = reply ++ drop (length reply) buffer };
+      answer = record { number = number; count = length reply; order = NoOrder; time = noTime; buffer = laidIn buffer reply };
     }
 
 -- ours: the definition
@@ -72,7 +82,7 @@ seenOf o buffer =
       count = length (o .reply);
       order = o .order;
       time = o .time;
-      buffer = o .reply ++ drop (length (o .reply)) buffer;
+      buffer = laidIn buffer (o .reply);
     }
 
 abbrev pub outcomeAt : Card → Loan → gap.Outcome

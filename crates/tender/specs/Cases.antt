@@ -9,19 +9,19 @@ use lib.ListN.{replicate}
 use Rattle.octets.specs.Choice.{if_then_else_}
 use Rattle.address.specs.declared.LinkAddress.{LinkAddress}
 use Rattle.address.specs.declared.PointAddress.{PointAddress}
-use Rattle.history.specs.History.{Outcome}
-use Rattle.label.specs.Label.{validA, partsA, second, millisecond}
-use Rattle.frame.specs.declared.Kind.the-variants.{Ack}
-use Rattle.message.specs.Kept.{messageOf}
-use Rattle.parts.specs.Parts.{labelAAt, labelBAt}
-use Rattle.line.specs.Collecting.{emptied}
-use Rattle.request.specs.declared.Session.{Session}
-use Rattle.request.specs.declared.Session.the-variants.{Closed, Open}
-use Rattle.carrying.specs.declared.Pending.{Pending}
-use Rattle.carrying.specs.declared.Waiting.{Waiting}
-use Rattle.carrying.specs.declared.Waiting.the-variants.{Nothing, Mirror}
-use Rattle.link.specs.declared.Meant.{Meant}
-use Rattle.link.specs.State.{plain, dataReply}
+use Rattle.history.specs.History.{Stepped}
+use Rattle.label.specs.Label.{validA, partsA, second, millisecond, labelAAt, labelBAt}
+use Rattle.frame.specs.declared.Control.the-variants.{Ack}
+use Rattle.frame.specs.declared.Reply.{Reply}
+use Rattle.frame.specs.Writing.{plain}
+use Rattle.octets.specs.Keeping.{keptOf}
+use Rattle.collector.specs.Collecting.{emptied}
+use Rattle.rules.specs.declared.Session.{Session}
+use Rattle.rules.specs.declared.Session.the-variants.{Closed, Open}
+use Rattle.deeds.specs.declared.Pending.{Pending}
+use Rattle.deeds.specs.declared.Waiting.{Waiting}
+use Rattle.deeds.specs.declared.Waiting.the-variants.{NoReply, Mirror}
+use Rattle.link.specs.State.{dataReply}
 use Rattle.card.specs.declared.Card.{Card}
 use Rattle.card.specs.State.{cardAtPowerOn}
 use Rattle.tender.specs.Card.{Loan, Seen, received, says, ours}
@@ -54,11 +54,11 @@ lent = record { image = smallest; clock = replicate 7 0; buffer = replicate 261 
 
 -- what is said of a case: outcomes of gaps, or numbers
 pub data Said : Type 0 where
-  outcomes : List (Outcome Card Seen) → Said
+  outcomes : List (Stepped Card Seen) → Said
   numbers : List ℕ → Said
 
 -- turn after turn, by the definition
-abbrev pub outcomesFrom : Card → List Turn → List (Outcome Card Seen)
+abbrev pub outcomesFrom : Card → List Turn → List (Stepped Card Seen)
 outcomesFrom card [] = []
 outcomesFrom card (t ∷ turns) = received ours card (t .run) lent ∷ outcomesFrom (received ours card (t .run) lent .state) turns
 
@@ -101,7 +101,7 @@ clockRefused = 0x68 ∷ 0x09 ∷ 0x09 ∷ 0x68 ∷ 0x08 ∷ 0x01 ∷ 0x00 ∷ 0x
 
 -- the card that is left, with an empty collector: whether it is reset, the last FCB, the session, the remembered reply, what waits, and the count
 -- of damaged runs
-abbrev pub cardLeft : Bool → ℕ → Session → Meant → Pending → ℕ → Card
+abbrev pub cardLeft : Bool → ℕ → Session → Reply → Pending → ℕ → Card
 cardLeft reset fcb session remembered pending damaged =
     record {
       collector = emptied;
@@ -111,10 +111,10 @@ cardLeft reset fcb session remembered pending damaged =
 
 -- this waits, of a request of these octets; nothing
 abbrev pub waits : Waiting → List ℕ → Pending
-waits waiting request = record { waiting = waiting; request = messageOf request; clock = replicate 7 0 }
+waits waiting request = record { waiting = waiting; request = keptOf request; clock = replicate 7 0 }
 
 abbrev pub nothingWaits : Pending
-nothingWaits = waits Nothing []
+nothingWaits = waits NoReply []
 
 abbrev pub ourLink : LinkAddress
 ourLink = record { 0 = 1 }
@@ -123,14 +123,14 @@ abbrev pub ourPoint : PointAddress
 ourPoint = record { 0 = 1 }
 
 -- the remembered reply: none yet, the ACK, a message of these octets
-abbrev pub noneKept : Meant
+abbrev pub noneKept : Reply
 noneKept = plain Ack (record { 0 = 0 })
 
-abbrev pub ackKept : Meant
+abbrev pub ackKept : Reply
 ackKept = plain Ack ourLink
 
-abbrev pub dataKept : List ℕ → Meant
-dataKept message = dataReply (messageOf message) ourLink
+abbrev pub dataKept : List ℕ → Reply
+dataKept message = dataReply (keptOf message) ourLink
 
 -- a reset, as in case 1: session closed, nothing waiting, last FCB 0, the ACK remembered
 abbrev pub resetTurn : Turn

@@ -2,78 +2,87 @@
 -- in document 01; a refusal changes neither the reply buffer nor the link and session."
 -- "May be given", "each call ends": the card's calls are functions of every card, octet, image, clock and buffer (`Calls`); that the code's are
 -- too, and end, is what its proof means. The other clauses are the fields of `Condition1`. Assumes nothing.
-use Prim.Native.Nat.{ℕ, _≤_}
-use mathlib.Core.Bool.{Bool, not, _&&_, _||_}
-use mathlib.Core.List.{List, [], _∷_}
+use Prim.Native.Nat.{ℕ}
+use mathlib.Core.Bool.{Bool, true, false, not, _&&_, _||_}
+use mathlib.Core.List.{List, []}
 use mathlib.Core.Path.{_≡_}
 use lib.Dec.{ltb, eqb}
-use lib.ListN.{length, getD}
+use lib.ListN.{length}
 use Rattle.octets.specs.Choice.{if_then_else_}
-use Rattle.history.specs.History.{Outcome}
+use Rattle.octets.specs.First.{When, _⇒_▸_, firstOf_else_}
+use Rattle.history.specs.History.{Stepped}
+use Rattle.address.specs.declared.LinkAddress.{LinkAddress}
+use Rattle.frame.specs.declared.Service.the-variants.{Reset, UserData, Status, Collection}
+use Rattle.frame.specs.declared.Asked.{Asked}
+use Rattle.frame.specs.declared.Asked.the-variants.{Is, NotOffered}
 use Rattle.frame.specs.Family.{sapr}
-use Rattle.frame.specs.Frame.{fixedForm, variableForm, sumRight, startOf, said}
-use Rattle.frame.specs.Control.{offered}
-use Rattle.parts.specs.Answers.{headFound}
+use Rattle.frame.specs.Frame.{Frame, fixed, variable, fixedForm, variableForm, sumRight, startOf, said}
+use Rattle.frame.specs.Controls.{askedBy}
+use Rattle.fields.specs.Answers.{identityFound}
 use Rattle.image.specs.Image.{soundImage}
-use Rattle.line.specs.Collecting.{emptied, isOverfull, runOf}
-use Rattle.line.specs.Examining.{heardOf, isLink}
-use Rattle.line.specs.Damage.{damagedAfter}
-use Rattle.carrying.specs.declared.Order.the-variants.{Nothing}
+use Rattle.collector.specs.Collecting.{emptied, isOverfull, runOf}
+use Rattle.collector.specs.Damage.{oneMore}
+use Rattle.deeds.specs.declared.Order.the-variants as order
 use Rattle.card.specs.declared.Card.{Card}
+use Rattle.card.specs.Examining.{isLink}
 use Rattle.tender.specs.Card.{Loan, Seen, noTime, AnyCard}
 
--- a number of document 01's table, and when it is due
-pub record Due : Type 0 where
-  pub number : ℕ
-  pub test : Bool
+-- the link address of a frame; whether what it asks is not offered; whether it is function 3 or 11
+abbrev pub linkOf : Frame → LinkAddress
+linkOf (fixed c a) = record { 0 = a }
+linkOf (variable c a user) = record { 0 = a }
 
-abbrev pub due : ℕ → Bool → Due
-due number test = record { number = number; test = test }
+abbrev pub isNotOffered : Asked → Bool
+isNotOffered NotOffered = true
+isNotOffered (Is service) = false
 
--- the first that is due, and 0 if none is
-abbrev pub firstDue : List Due → ℕ
-firstDue [] = 0
-firstDue (d ∷ ds) = if d .test then d .number else firstDue ds
+abbrev pub isCounted : Asked → Bool
+isCounted NotOffered = false
+isCounted (Is Reset) = false
+isCounted (Is (UserData bit)) = true
+isCounted (Is Status) = false
+isCounted (Is (Collection bit)) = true
 
 -- document 01, "What a gap answers": when each number is due, in its order
-abbrev pub refusals : Card → Loan → List Due
+abbrev pub refusals : Card → Loan → List (When ℕ)
 refusals card loan =
     let run = runOf (card .collector) in
     let overfull = isOverfull (card .collector) in
-    let frame = heardOf (said sapr run) in
-    let asked = offered (frame .form) (frame .control) in
-    let function = getD (asked .values) 0 0 in
-    due 9 (ltb (length (loan .buffer)) 261)
-    ∷ due 8 (not (soundImage (loan .image)))
-    ∷ due 1 (not overfull && eqb (length run) 0)
-    ∷ due 2 overfull
-    ∷ due 3 (not (fixedForm sapr run || variableForm sapr run))
-    ∷ due 4 (not (sumRight (startOf sapr run) run))
-    ∷ due 5 (not (isLink (headFound (loan .image)) (frame .link)))
-    ∷ due 6 (eqb (asked .number) 6)
-    ∷ due 7 ((eqb function 3 || eqb function 11) && not (card .link .reset))
-    ∷ []
+    let frame = said sapr run in
+    ltb (length (loan .buffer)) 261 ⇒ 9 ▸
+    not (soundImage (loan .image)) ⇒ 8 ▸
+    not overfull && eqb (length run) 0 ⇒ 1 ▸
+    overfull ⇒ 2 ▸
+    not (fixedForm sapr run || variableForm sapr run) ⇒ 3 ▸
+    not (sumRight (startOf sapr run) run) ⇒ 4 ▸
+    not (isLink (identityFound (loan .image)) (linkOf frame)) ⇒ 5 ▸
+    isNotOffered (askedBy frame) ⇒ 6 ▸
+    isCounted (askedBy frame) && not (card .link .reset) ⇒ 7 ▸ []
+
+-- 1, 8 and 9 change nothing; 2, 3 and 4 are damaged runs
+abbrev pub changesNothing : ℕ → Bool
+changesNothing number = eqb number 1 || (eqb number 8 || eqb number 9)
+
+abbrev pub isDamage : ℕ → Bool
+isDamage number = eqb number 2 || (eqb number 3 || eqb number 4)
 
 -- what a refusal leaves: the buffer untouched, length 0 and no order, link and session unchanged
-pub record Refused (card : Card) (loan : Loan) (x : Outcome Card Seen) : Type 0 where
+pub record Refused (card : Card) (loan : Loan) (x : Stepped Card Seen) : Type 0 where
   pub buffer-kept : x .answer .buffer ≡ loan .buffer
   pub no-reply : x .answer .count ≡ 0
-  pub no-order : x .answer .order ≡ Nothing
+  pub no-order : x .answer .order ≡ order.NoOrder
   pub no-time : x .answer .time ≡ noTime
   pub link-kept : x .state .link ≡ card .link
-  -- 2 to 7 empty the collector
-  pub run-gone : 2 ≤ x .answer .number → x .answer .number ≤ 7 → x .state .collector ≡ emptied
-  -- 1, 8 and 9 leave all of the card
-  pub empty-kept : x .answer .number ≡ 1 → x .state ≡ card
-  pub unsound-kept : x .answer .number ≡ 8 → x .state ≡ card
-  pub short-kept : x .answer .number ≡ 9 → x .state ≡ card
+  -- all of the card is kept, or the collector is emptied
+  pub all-kept : changesNothing (x .answer .number) ≡ true → x .state ≡ card
+  pub run-gone : changesNothing (x .answer .number) ≡ false → x .state .collector ≡ emptied
 
 pub record Condition1 (c : AnyCard) : Type 0 where
   -- every octet: it keeps link and session, and is not counted as a damaged run
   pub octet-link-kept : (card : Card) (octet : ℕ) → c .calls .symbol card octet .link ≡ card .link
   pub octet-uncounted : (card : Card) (octet : ℕ) → c .calls .symbol card octet .damaged ≡ card .damaged
   -- bad input: each number exactly when it is due and none before it is
-  pub numbers : (card : Card) (loan : Loan) → c .calls .gap card loan .answer .number ≡ firstDue (refusals card loan)
+  pub numbers : (card : Card) (loan : Loan) → c .calls .gap card loan .answer .number ≡ (firstOf refusals card loan else 0)
   -- a refusal
   pub refused : (card : Card) (loan : Loan) → (c .calls .gap card loan .answer .number ≡ 0 → ⊥) → Refused card loan (c .calls .gap card loan)
 
@@ -81,4 +90,4 @@ pub record Condition1 (c : AnyCard) : Type 0 where
 -- answered frame and of 2 to 7 this alone does
 pub record Counted (c : AnyCard) : Type 0 where
   pub counts : (card : Card) (loan : Loan)
-      → c .calls .gap card loan .state .damaged ≡ damagedAfter (card .damaged) (c .calls .gap card loan .answer .number)
+      → c .calls .gap card loan .state .damaged ≡ (if isDamage (c .calls .gap card loan .answer .number) then oneMore (card .damaged) else card .damaged)

@@ -6,18 +6,19 @@ use Prim.Native.Nat.{ℕ, _≤_, _<_}
 use mathlib.Core.List.{List}
 use mathlib.Core.Path.{_≡_}
 use lib.ListN.{length, getD}
+use Rattle.octets.specs.declared.Kept.{Kept}
 use Rattle.history.specs.History.{AllFit}
 use Rattle.history.specs.Invariant.{AtGaps}
-use Rattle.frame.specs.Control.{offered}
+use Rattle.frame.specs.declared.Reply.{Reply}
+use Rattle.frame.specs.declared.Service.{Service}
 use Rattle.frame.specs.Family.{sapr}
 use Rattle.frame.specs.Frame.{sound, judge}
+use Rattle.frame.specs.Controls.{Counts}
 use Rattle.frame.specs.Writing.{replyFrame}
-use Rattle.line.specs.Examining.{examined}
-use Rattle.link.specs.declared.Meant.{Meant}
-use Rattle.link.specs.Answering.{answered}
+use Rattle.link.specs.Answering.{answered, replySent}
 use Rattle.card.specs.declared.Card.{Card}
 use Rattle.card.specs.State.{cardAtPowerOn}
-use Rattle.tender.specs.Card.{Loan, replyIn, Calls, AnyCard, History, answersOf, endOf, ourCard}
+use Rattle.tender.specs.Card.{Loan, replyIn, Calls, AnyCard, History, answersOf, endOf, Heard, ourCard}
 
 -- it powers on as document 01 says, and at every history from there, with any images, clocks and buffers lent gap by gap, it answers what
 -- the definition answers and is left as the definition leaves it
@@ -26,16 +27,21 @@ pub record Condition2 (c : AnyCard) : Type 0 where
   pub as-defined : (h : History) → answersOf c h ≡ answersOf ourCard h
   pub left-as-defined : (h : History) → endOf c h ≡ endOf ourCard h
 
--- the reply that the definition says is meant at a gap: with the last FCB the remembered one, else a new one, which carries the link address
--- of the image lent
-abbrev pub meantAt : Card → Loan → Meant
-meantAt card loan = answered (card .link) (examined (card .collector) (loan .image) .frame) (loan .image) (loan .clock) .reply
+-- the reply that the definition says is meant when a service is heard: with the last FCB the remembered one, else a new one, which carries the
+-- link address of the image lent
+abbrev pub meantAt : Card → Loan → Service → Kept → Reply
+meantAt card loan service user =
+    let a = answered (card .link) service user (loan .image) (loan .clock) in
+    replySent (a .sends) (a .link)
 
--- every reply is a sound frame of at most 261 octets, and judged by the same rules gives back what was meant. Where there is one is said by
--- `Condition2`
+-- every reply is that to a service which was heard, a sound frame of at most 261 octets, and judged by the same rules gives back what was meant.
+-- Where there is one is said by `Condition2`
 pub record SoundReply (m : Calls) (card : Card) (loan : Loan) : Type 0 where
+  pub service : Service
+  pub user : Kept
+  pub heard : Heard card loan service user
   pub at-most-261 : m .gap card loan .answer .count ≤ 261
-  pub gives-back : judge sapr (replyIn (m .gap card loan .answer)) ≡ sound (replyFrame (meantAt card loan .reply) (meantAt card loan .link))
+  pub gives-back : judge sapr (replyIn (m .gap card loan .answer)) ≡ sound (replyFrame (meantAt card loan service user))
 
 -- what is lent: an image of octets, a clock of seven
 pub record Lent (loan : Loan) : Type 0 where
@@ -47,14 +53,8 @@ SoundReplies c =
     (h : History) → AllFit Lent h
     → AtGaps (c .calls) (λ (card : Card) (loan : Loan). c .calls .gap card loan .answer .number ≡ 0 → SoundReply (c .calls) card loan) (c .powerOn) h
 
--- the count bit: an answered frame of function 3 or 11, neither reset nor status, leaves its FCB the last. Which is answered is said by
--- condition 1's numbers
-abbrev pub askedAt : Card → Loan → List ℕ
-askedAt card loan =
-    let frame = examined (card .collector) (loan .image) .frame in
-    offered (frame .form) (frame .control) .values
-
-pub record CountBit (c : AnyCard) : Type 0 where
-  pub becomes-last : (card : Card) (loan : Loan) → c .calls .gap card loan .answer .number ≡ 0
-      → (getD (askedAt card loan) 0 0 ≡ 0 → ⊥) → (getD (askedAt card loan) 0 0 ≡ 9 → ⊥)
-      → c .calls .gap card loan .state .link .fcb ≡ getD (askedAt card loan) 1 0
+-- the count bit: an answered frame of user data or collection leaves its FCB the last. Which is answered is said by condition 1's numbers
+abbrev pub CountBit : AnyCard → Type 0
+CountBit c =
+    (card : Card) (loan : Loan) (service : Service) (user : Kept) (bit : ℕ) → Heard card loan service user → Counts service bit
+    → c .calls .gap card loan .answer .number ≡ 0 → c .calls .gap card loan .state .link .fcb ≡ bit

@@ -9,14 +9,15 @@ use mathlib.Core.Bool.{Bool, true, false}
 use mathlib.Core.List.{List, [], _∷_}
 use mathlib.Core.Path.{_≡_}
 use lib.ListN.{length, getD, drop, set}
-use Rattle.history.specs.History.{Symbol, Gap, Call, Outcome, AllFit, Each}
+use Rattle.history.specs.History.{Symbol, Gap, Call, Stepped, AllFit, Each}
 use Rattle.history.specs.Noise.{Noised, inserted, remaining}
+use Rattle.frame.specs.declared.Service.{Service}
+use Rattle.frame.specs.declared.Asked.the-variants.{Is}
 use Rattle.frame.specs.Family.{sapr}
 use Rattle.frame.specs.Frame.{Frame, sound, judge}
-use Rattle.frame.specs.Control.{offered}
+use Rattle.frame.specs.Controls.{askedBy, Counts}
 use Rattle.image.specs.Image.{soundImage}
-use Rattle.line.specs.Examining.{heardOf}
-use Rattle.carrying.specs.declared.Order.the-variants.{Nothing}
+use Rattle.deeds.specs.declared.Order.the-variants.{NoOrder}
 use Rattle.card.specs.declared.Card.{Card}
 use Rattle.tender.specs.Card.{Loan, Seen, replyIn, noTime, AnyCard, History, answersOf, endOf, received, ours, ourCard}
 
@@ -41,7 +42,7 @@ pub record Alike (s t : Card) : Type 0 where
 pub record Mute (seen : Seen) : Type 0 where
   pub not-0 : seen .number ≡ 0 → ⊥
   pub no-reply : seen .count ≡ 0
-  pub no-order : seen .order ≡ Nothing
+  pub no-order : seen .order ≡ NoOrder
   pub no-time : seen .time ≡ noTime
 
 -- `n` says how h′ is h with runs of noise put in: h′ is what the card hears, h is what the definition is asked about
@@ -65,12 +66,14 @@ OneOctetNoise =
 -- a data or a collection frame: function 3 or 11
 pub record Counting (run : List ℕ) : Type 0 where
   pub frame : Frame
+  pub service : Service
+  pub bit : ℕ
   pub is-sound : judge sapr run ≡ sound frame
-  pub not-reset : getD (offered (heardOf frame .form) (heardOf frame .control) .values) 0 0 ≡ 0 → ⊥
-  pub not-status : getD (offered (heardOf frame .form) (heardOf frame .control) .values) 0 0 ≡ 9 → ⊥
+  pub asks : askedBy frame ≡ Is service
+  pub counts : Counts service bit
 
 -- what two receptions of one frame do, one after the other, the second with this buffer lent
-pub record Again (first second : Outcome Card Seen) (buffer : List ℕ) : Type 0 where
+pub record Again (first second : Stepped Card Seen) (buffer : List ℕ) : Type 0 where
   pub answered : first .answer .number ≡ 0
   pub answered-again : second .answer .number ≡ 0
   -- it gets the same reply, in the first octets of the buffer, the rest unchanged
@@ -78,7 +81,7 @@ pub record Again (first second : Outcome Card Seen) (buffer : List ℕ) : Type 0
   pub same-reply : replyIn (second .answer) ≡ replyIn (first .answer)
   pub rest-kept : drop (second .answer .count) (second .answer .buffer) ≡ drop (second .answer .count) buffer
   -- gives no order
-  pub no-order : second .answer .order ≡ Nothing
+  pub no-order : second .answer .order ≡ NoOrder
   pub no-time : second .answer .time ≡ noTime
   -- and changes nothing
   pub nothing-changes : second .state ≡ first .state

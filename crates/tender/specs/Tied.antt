@@ -5,13 +5,13 @@ use Prim.Native.Nat.{ℕ}
 use mathlib.Core.List.{List}
 use mathlib.Core.Path.{_≡_}
 use denote.Ref.{RefT, now}
-use Rattle.history.specs.History.{Outcome, fed}
+use Rattle.history.specs.History.{Stepped, fed}
 use Rattle.card.specs.declared.Card.{Card}
 use Rattle.card.specs.declared.Gone.{Gone}
 use Rattle.tender.specs.Card.{Seen, ours, ourCard}
 
 -- what a gap's result and the buffer at exit come to: the card that is left, and what is seen
-abbrev pub outcomeBy : Gone → List ℕ → Outcome Card Seen
+abbrev pub outcomeBy : Gone → List ℕ → Stepped Card Seen
 outcomeBy gone left =
     record {
       state = gone .card;

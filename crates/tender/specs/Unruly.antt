@@ -5,16 +5,14 @@ use mathlib.Core.Bool.{Bool, _||_}
 use lib.Dec.{eqb}
 use lib.ListN.{getD}
 use Rattle.octets.specs.Choice.{if_then_else_}
-use Rattle.request.specs.declared.Session.{Session}
-use Rattle.request.specs.declared.Session.the-variants.{Closed}
-use Rattle.carrying.specs.declared.Order.the-variants.{Clock}
-use Rattle.carrying.specs.Carrying.{nothingPending}
-use Rattle.link.specs.State.{inSession, awaiting}
+use Rattle.frame.specs.Writing.{replyOctets}
+use Rattle.rules.specs.declared.Session.{Session}
+use Rattle.rules.specs.declared.Session.the-variants.{Closed}
+use Rattle.deeds.specs.declared.Order.the-variants.{SetClock}
+use Rattle.deeds.specs.Deeds.{nothingPending}
 use Rattle.card.specs.declared.Card.{Card}
-use Rattle.card.specs.State.{linkedBy}
-use Rattle.card.specs.Gap.{octetsMeant}
 use Rattle.tender.specs.Card.{Calls, says, ours}
-use Rattle.tender.specs.Wrong.{withGap, leaving}
+use Rattle.tender.specs.Wrong.{withGap, linkedBy, inSession, awaiting, leaving}
 use Rattle.tender.specs.Rules.{nothingToGive}
 
 -- an octet of the run: at 1 a fixed frame has C, at 7 a variable one the type of its message
@@ -41,7 +39,7 @@ droppingAtNack =
 abbrev pub givingNothing : Calls
 givingNothing =
     withGap (λ card loan.
-    if isCollection card then says (ours .gap card loan .state) 0 (octetsMeant (nothingToGive loan)) (loan .buffer) else
+    if isCollection card then says (ours .gap card loan .state) 0 (replyOctets (nothingToGive loan)) (loan .buffer) else
     ours .gap card loan)
     .calls
 
@@ -56,7 +54,7 @@ orderingAgain =
           record {
             number = x .answer .number;
             count = x .answer .count;
-            order = if eqb (octetAt 7 card) 181 then Clock else x .answer .order;
+            order = if eqb (octetAt 7 card) 181 then SetClock else x .answer .order;
             time = x .answer .time;
             buffer = x .answer .buffer;
           };

@@ -6,23 +6,35 @@ use mathlib.Core.List.{[], _∷_, _++_}
 use lib.Dec.{eqb}
 use lib.ListN.{length, getD, take, replicate, set}
 use Rattle.octets.specs.Choice.{if_then_else_}
-use Rattle.history.specs.History.{Outcome}
-use Rattle.request.specs.declared.Session.the-variants.{Closed, Open}
-use Rattle.carrying.specs.declared.Order.the-variants.{Nothing, Clock}
+use Rattle.history.specs.History.{Stepped}
+use Rattle.frame.specs.Writing.{replyOctets}
+use Rattle.rules.specs.declared.Session.{Session}
+use Rattle.rules.specs.declared.Session.the-variants.{Closed, Open}
+use Rattle.deeds.specs.declared.Pending.{Pending}
+use Rattle.deeds.specs.declared.Order.the-variants.{NoOrder, SetClock}
 use Rattle.link.specs.declared.Link.{Link}
-use Rattle.link.specs.State.{powerOn, afterReset, remembering, inSession}
+use Rattle.link.specs.State.{powerOn, afterReset, afterNew}
 use Rattle.card.specs.declared.Card.{Card}
-use Rattle.card.specs.State.{cardAtPowerOn, collecting, withOctet, linkedBy}
-use Rattle.card.specs.Gap.{octetsMeant}
+use Rattle.card.specs.State.{cardAtPowerOn, collecting, withOctet}
 use Rattle.tender.specs.Card.{Loan, Seen, AnyCard, says, ours}
 
 -- a card with our power-on and our octet function, and another gap function
-abbrev pub withGap : (Card → Loan → Outcome Card Seen) → AnyCard
+abbrev pub withGap : (Card → Loan → Stepped Card Seen) → AnyCard
 withGap gap = record { powerOn = cardAtPowerOn; calls = record { symbol = withOctet; gap = gap; call = ours .call } }
 
 -- and one with our power-on and our gap function, and another octet function
 abbrev pub withSymbol : (Card → ℕ → Card) → AnyCard
 withSymbol symbol = record { powerOn = cardAtPowerOn; calls = record { symbol = symbol; gap = ours .gap; call = ours .call } }
+
+-- a card with another link; a link with another session, or with something else waiting
+abbrev pub linkedBy : Link → Card → Card
+linkedBy link card = record { collector = card .collector; link = link; damaged = card .damaged }
+
+abbrev pub inSession : Session → Link → Link
+inSession session link = record { reset = link .reset; fcb = link .fcb; session = session; remembered = link .remembered; pending = link .pending }
+
+abbrev pub awaiting : Pending → Link → Link
+awaiting pending link = record { reset = link .reset; fcb = link .fcb; session = link .session; remembered = link .remembered; pending = pending }
 
 -- and one that does what ours does, but powers on with another link
 abbrev pub withLink : Link → AnyCard
@@ -44,7 +56,7 @@ idler = withGap (λ card loan. says card 1 [] (loan .buffer))
 abbrev pub repeater : AnyCard
 repeater =
     withGap (λ card loan.
-    if card .link .reset then says card 0 (octetsMeant (card .link .remembered)) (loan .buffer) else
+    if card .link .reset then says card 0 (replyOctets (card .link .remembered)) (loan .buffer) else
     ours .gap card loan)
 
 -- the same, but polite: it repeats at frames that ours answers, and leaves all else to ours, so that noise goes unanswered. A condition 3 that
@@ -53,7 +65,7 @@ abbrev pub politeRepeater : AnyCard
 politeRepeater =
     withGap (λ card loan.
     if card .link .reset && eqb (ours .gap card loan .answer .number) 0
-    then says (linkedBy (card .link) (ours .gap card loan .state)) 0 (octetsMeant (card .link .remembered)) (loan .buffer)
+    then says (linkedBy (card .link) (ours .gap card loan .state)) 0 (replyOctets (card .link .remembered)) (loan .buffer)
     else ours .gap card loan)
 
 -- never answers, and hears nothing. The same looser condition 3 lets it through; and so does a `Repeats` of the frames that the card itself
@@ -67,7 +79,7 @@ stone =
 
 -- counts as reset at power-on; has a session open at power-on. Conditions over histories from our power-on, whatever the card's, let both through
 abbrev pub resetter : AnyCard
-resetter = withLink (afterReset (powerOn .remembered) powerOn)
+resetter = withLink (afterReset (powerOn .remembered))
 
 abbrev pub opener : AnyCard
 opener = withLink (inSession (Open (record { 0 = 1 })) powerOn)
@@ -97,7 +109,7 @@ clinger =
 abbrev pub stumbler : AnyCard
 stumbler =
     leaving (λ card loan seen left.
-    if eqb (seen .number) 4 then linkedBy (remembering (1 - card .link .fcb) (card .link .remembered) (left .link)) left else
+    if eqb (seen .number) 4 then linkedBy (afterNew (1 - card .link .fcb) (card .link .remembered) (left .link .session) (left .link .pending) (left .link)) left else
     left)
 
 -- a run that is not the form of a frame stays in the collector. A condition 1 without `run-gone` lets it through
@@ -128,7 +140,7 @@ setter =
     record {
       number = seen .number;
       count = seen .count;
-      order = if eqb (seen .number) 0 then Clock else Nothing;
+      order = if eqb (seen .number) 0 then SetClock else NoOrder;
       time = seen .time;
       buffer = seen .buffer;
     })

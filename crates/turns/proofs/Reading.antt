@@ -14,7 +14,7 @@ use Rattle.octets.proofs.Choice.{either}
 use Rattle.image.specs.Image.{soundImage}
 use Rattle.input.specs.declared.Head.{Head}
 use Rattle.input.specs.declared.Head.the-variants as head
-use Rattle.input.specs.Input.{lengthOf2, headOf, headSize, imageIn, clockIn, runSize}
+use Rattle.input.specs.Input.{lengthOf2, headFound, headSize, clockAt, imageIn, clockIn, runSize}
 use Rattle.turns.specs.Printed.{afterHead, headTurn, firstRun}
 use Rattle.turns.proofs.Steps.{run-two}
 
@@ -103,7 +103,7 @@ module _ (read more : List ℕ) where
       image-read = rw image-length (part-read 3 (lengthOf2 read 1) (omega (arith, whole)))
 
       pub clock-read : clockIn (read ++ more) ≡ clockIn read
-      unfolding clockIn
+      unfolding clockIn clockAt
       clock-read = rw (image-length, part-read (3 + lengthOf2 read 1) 7 (omega (arith, whole)))
 
     -- what the head is, by its version
@@ -115,7 +115,7 @@ module _ (read more : List ℕ) where
 
     -- so its turn is the same
     pub head-read : headTurn (read ++ more) ≡ headTurn read
-    unfolding headTurn headOf
+    unfolding headTurn headFound
     head-read =
         let much : 1 ≤ length (read ++ more) = omega (arith, some, longer) in
         ap afterHead (rw (version-read, le-ltb (length (read ++ more)) 1 much, le-ltb (length read) 1 some) (head-by (eqb (getD read 0 0) 1) refl))

@@ -1,6 +1,6 @@
 -- What the public contracts of this crate do not allow: two wrong outcomes or more of each.
--- By what is left of a text that fits and of one that does not. That the next run gets the next number is not a turn's to say: `runsText` and
--- `Steps` fix it, and a turn prints the number that it is given. Assumes nothing.
+-- By what is left of a text that fits and of one that does not. That the next run gets the next number is not a turn's to say: `turnsText` and
+-- `Steps` fix it, and a turn prints the number that it is called with. Assumes nothing.
 use Prim.Native.Nat.{ℕ, _≤_, _<_}
 use mathlib.Core.Bool.{true, false, false≢true}
 use mathlib.Core.List.{List, [], _∷_}
@@ -19,11 +19,11 @@ use Rattle.input.specs.declared.Head.{Head}
 use Rattle.input.specs.declared.Head.the-variants as head
 use Rattle.input.specs.declared.Run.{Run}
 use Rattle.input.specs.declared.Run.the-variants as run
-use Rattle.input.specs.Input.{headOf, runOf}
+use Rattle.input.specs.Input.{headFound, runFound}
 use Rattle.printing.specs.Line.{cutLine, lineOf}
 use Rattle.turns.specs.declared.Left.{Left}
 use Rattle.turns.specs.Printed.{Turn, lastTurn, afterHead, headTurn, lineTurn, gapTurn, afterRun, runTurn}
-use Rattle.turns.specs.Turned.{fitting, leftBy, Turned}
+use Rattle.turns.specs.Turned.{fittingTurn, leftBy, Turned}
 use Rattle.turns.proofs.Turning.{whole, stands, refused, kept}
 use Rattle.turns.proofs.start.Reads as start
 use Rattle.turns.proofs.turn.Reads as turn
@@ -45,12 +45,12 @@ head-card head.Whole = refl
 
 -- so of a text that is refused as well
 module _ (under : List ℕ) (before : Card) (t : Turn) where
-  fitting-card : t .card ≡ before → fitting under before t .card ≡ before
-  unfolding fitting
+  fitting-card : t .card ≡ before → fittingTurn under before t .card ≡ before
+  unfolding fittingTurn
   fitting-card e = either (λ (u : Turn). u .card ≡ before) (fitsAt under 0 (t .text)) (λ _. e) (λ _. refl)
 
-  fitting-last : t .more ≡ false → fitting under before t .more ≡ false
-  unfolding fitting
+  fitting-last : t .more ≡ false → fittingTurn under before t .more ≡ false
+  unfolding fittingTurn
   fitting-last e = either (λ (u : Turn). u .more ≡ false) (fitsAt under 0 (t .text)) (λ _. e) (λ _. refl)
 
 module _ (κs : Lfts 2) (x y : Place) (out read : List ℕ) (wrong : Left) where
@@ -58,77 +58,77 @@ module _ (κs : Lfts 2) (x y : Place) (out read : List ℕ) (wrong : Left) where
   start-card : (wrong .card ≡ cardAtPowerOn → ⊥) → RuledOut (start.Post κs) (lent x out, (lent y read, tt)) wrong
   unfolding leftBy headTurn
   start-card other s p =
-      other (ap (λ (l : Left). l .card) (p .returns) ∙ fitting-card out cardAtPowerOn (headTurn read) (head-card (headOf read)))
+      other (ap (λ (l : Left). l .card) (p .0 .answers) ∙ fitting-card out cardAtPowerOn (headTurn read) (head-card (headFound read)))
 
   -- runs after another version, an unsound image or a head that is cut
-  start-runs : (headOf read ≡ head.Whole → ⊥) → wrong .more ≡ true → RuledOut (start.Post κs) (lent x out, (lent y read, tt)) wrong
+  start-runs : (headFound read ≡ head.Whole → ⊥) → wrong .more ≡ true → RuledOut (start.Post κs) (lent x out, (lent y read, tt)) wrong
   unfolding leftBy headTurn
   start-runs other more s p =
-      false≢true (sym (fitting-last out cardAtPowerOn (headTurn read) (head-last (headOf read) other)) ∙ sym (ap (λ (l : Left). l .more) (p .returns)) ∙ more)
+      false≢true (sym (fitting-last out cardAtPowerOn (headTurn read) (head-last (headFound read) other)) ∙ sym (ap (λ (l : Left). l .more) (p .0 .answers)) ∙ more)
 
   -- no run after a whole head
-  start-none : headOf read ≡ head.Whole → wrong .more ≡ false → RuledOut (start.Post κs) (lent x out, (lent y read, tt)) wrong
+  start-none : headFound read ≡ head.Whole → wrong .more ≡ false → RuledOut (start.Post κs) (lent x out, (lent y read, tt)) wrong
   unfolding leftBy headTurn afterHead
   start-none found none s p =
       let said : Turned out cardAtPowerOn (afterHead head.Whole) wrong (now (s .0)) = rw found at p in
-      false≢true (sym none ∙ ap (λ (l : Left). l .more) (whole said (omega arith)))
+      false≢true (sym none ∙ ap (λ (l : Left). l .more) (whole _ _ _ said (omega arith)))
 
   -- CUT for cut, whatever is answered
-  start-case : headOf read ≡ head.Cut → 4 ≤ length out
+  start-case : headFound read ≡ head.Cut → 4 ≤ length out
       → RuledOutWith (λ s. take 4 (now (s .0))) (start.Post κs) (lent x out, (lent y read, tt)) wrong (67 ∷ 85 ∷ 84 ∷ 10 ∷ [])
   unfolding headTurn afterHead
   start-case found room s e p =
       let said : Turned out cardAtPowerOn (afterHead head.Cut) wrong (now (s .0)) = rw found at p in
-      omega (arith, ap (λ (l : List ℕ). getD l 0 0) (sym e ∙ stands said room))
+      omega (arith, ap (λ (l : List ℕ). getD l 0 0) (sym e ∙ stands _ _ _ said room))
 
   -- nothing said of another version
-  start-version : headOf read ≡ head.Version → 8 ≤ length out → (wrong .count ≡ 8 → ⊥) → RuledOut (start.Post κs) (lent x out, (lent y read, tt)) wrong
+  start-version : headFound read ≡ head.Version → 8 ≤ length out → (wrong .count ≡ 8 → ⊥) → RuledOut (start.Post κs) (lent x out, (lent y read, tt)) wrong
   unfolding leftBy headTurn afterHead
   start-version found room other s p =
       let said : Turned out cardAtPowerOn (afterHead head.Version) wrong (now (s .0)) = rw found at p in
-      other (ap (λ (l : Left). l .count) (whole said room))
+      other (ap (λ (l : Left). l .count) (whole _ _ _ said room))
 
   -- a count of a text that does not fit
   start-short : length out < length (headTurn read .text) → (wrong .count ≡ 0 → ⊥) → RuledOut (start.Post κs) (lent x out, (lent y read, tt)) wrong
   unfolding leftBy
-  start-short short other s p = other (ap (λ (l : Left). l .count) (refused p short))
+  start-short short other s p = other (ap (λ (l : Left). l .count) (refused _ _ _ p short))
 
 module _ (κs : Lfts 3) (x y z : Place) (out : List ℕ) (card : Card) (image clock : List ℕ) (number : ℕ) (octets : List ℕ) (wrong : Left) where
   -- the turn by what the run is
-  said-of : (r : Run) → runOf octets ≡ r → {left : List ℕ} → Turned out card (runTurn card image clock number octets) wrong left
+  said-of : (r : Run) → runFound octets ≡ r → {left : List ℕ} → Turned out card (runTurn card image clock number octets) wrong left
       → Turned out card (afterRun r card image clock number octets) wrong left
   unfolding runTurn
   said-of r found p = rw found at p
 
   -- a cut run given to the card, or the card changed by one in any other way
-  turn-cut-card : runOf octets ≡ run.Cut → (wrong .card ≡ card → ⊥)
+  turn-cut-card : runFound octets ≡ run.Cut → (wrong .card ≡ card → ⊥)
       → RuledOut (turn.Post κs) (lent x out, (card, (lent y image, (clock, (number, (lent z octets, tt)))))) wrong
   unfolding leftBy afterRun
   turn-cut-card found other s p =
-      other (ap (λ (l : Left). l .card) (said-of run.Cut found p .returns) ∙ fitting-card out card (lastTurn cutLine card) refl)
+      other (ap (λ (l : Left). l .card) (said-of run.Cut found p .0 .answers) ∙ fitting-card out card (lastTurn cutLine card) refl)
 
   -- another run after a cut one
-  turn-cut-more : runOf octets ≡ run.Cut → wrong .more ≡ true
+  turn-cut-more : runFound octets ≡ run.Cut → wrong .more ≡ true
       → RuledOut (turn.Post κs) (lent x out, (card, (lent y image, (clock, (number, (lent z octets, tt)))))) wrong
   unfolding leftBy afterRun
   turn-cut-more found more s p =
-      false≢true (sym (fitting-last out card (lastTurn cutLine card) refl) ∙ sym (ap (λ (l : Left). l .more) (said-of run.Cut found p .returns)) ∙ more)
+      false≢true (sym (fitting-last out card (lastTurn cutLine card) refl) ∙ sym (ap (λ (l : Left). l .more) (said-of run.Cut found p .0 .answers)) ∙ more)
 
   -- CUT for cut, whatever is answered
-  turn-cut-case : runOf octets ≡ run.Cut → 4 ≤ length out
+  turn-cut-case : runFound octets ≡ run.Cut → 4 ≤ length out
       → RuledOutWith (λ s. take 4 (now (s .0))) (turn.Post κs) (lent x out, (card, (lent y image, (clock, (number, (lent z octets, tt)))))) wrong
       (67 ∷ 85 ∷ 84 ∷ 10 ∷ [])
   unfolding afterRun
-  turn-cut-case found room s e p = omega (arith, ap (λ (l : List ℕ). getD l 0 0) (sym e ∙ stands (said-of run.Cut found p) room))
+  turn-cut-case found room s e p = omega (arith, ap (λ (l : List ℕ). getD l 0 0) (sym e ∙ stands _ _ _ (said-of run.Cut found p) room))
 
   -- a text where the input ends
-  turn-end-text : runOf octets ≡ run.End → (wrong .count ≡ 0 → ⊥)
+  turn-end-text : runFound octets ≡ run.End → (wrong .count ≡ 0 → ⊥)
       → RuledOut (turn.Post κs) (lent x out, (card, (lent y image, (clock, (number, (lent z octets, tt)))))) wrong
   unfolding leftBy afterRun
-  turn-end-text found other s p = other (ap (λ (l : Left). l .count) (whole (said-of run.End found p) (omega arith)))
+  turn-end-text found other s p = other (ap (λ (l : Left). l .count) (whole _ _ _ (said-of run.End found p) (omega arith)))
 
   -- a whole run
-  module _ (found : runOf octets ≡ run.Whole) where
+  module _ (found : runFound octets ≡ run.Whole) where
     -- its outcome: the run's octets without their length, and a gap
     abbrev outcome : Outcome
     outcome = gapped (withOctets card (drop 2 octets)) image clock 261
@@ -146,29 +146,29 @@ module _ (κs : Lfts 3) (x y z : Place) (out : List ℕ) (card : Card) (image cl
     turn-card : length text ≤ length out → (wrong .card ≡ outcome .card → ⊥)
         → RuledOut (turn.Post κs) (lent x out, (card, (lent y image, (clock, (number, (lent z octets, tt)))))) wrong
     unfolding leftBy lineTurn
-    turn-card fits other s p = other (ap (λ (l : Left). l .card) (whole (said-whole p) fits))
+    turn-card fits other s p = other (ap (λ (l : Left). l .card) (whole _ _ _ (said-whole p) fits))
 
     -- no run after a whole one
     turn-none : length text ≤ length out → wrong .more ≡ false
         → RuledOut (turn.Post κs) (lent x out, (card, (lent y image, (clock, (number, (lent z octets, tt)))))) wrong
     unfolding leftBy lineTurn
-    turn-none fits none s p = false≢true (sym none ∙ ap (λ (l : Left). l .more) (whole (said-whole p) fits))
+    turn-none fits none s p = false≢true (sym none ∙ ap (λ (l : Left). l .more) (whole _ _ _ (said-whole p) fits))
 
     -- another text than the run's line, with another number too
     turn-line : (other : List ℕ) → length text ≤ length out → (other ≡ text → ⊥)
         → RuledOutWith (λ s. take (length text) (now (s .0))) (turn.Post κs) (lent x out, (card, (lent y image, (clock, (number, (lent z octets, tt)))))) wrong
         other
     unfolding lineTurn
-    turn-line other fits differ s e p = differ (sym e ∙ stands (said-whole p) fits)
+    turn-line other fits differ s e p = differ (sym e ∙ stands _ _ _ (said-whole p) fits)
 
     -- a line that does not fit, and the run yet carried out
     turn-short-card : length out < length text → (wrong .card ≡ card → ⊥)
         → RuledOut (turn.Post κs) (lent x out, (card, (lent y image, (clock, (number, (lent z octets, tt)))))) wrong
     unfolding leftBy lineTurn
-    turn-short-card short other s p = other (ap (λ (l : Left). l .card) (refused (said-whole p) short))
+    turn-short-card short other s p = other (ap (λ (l : Left). l .card) (refused _ _ _ (said-whole p) short))
 
     -- a line that does not fit, and the buffer yet changed
     turn-short-buffer : (other : List ℕ) → length out < length text → (other ≡ out → ⊥)
         → RuledOutWith (λ s. now (s .0)) (turn.Post κs) (lent x out, (card, (lent y image, (clock, (number, (lent z octets, tt)))))) wrong other
     unfolding lineTurn
-    turn-short-buffer other short differ s e p = differ (sym e ∙ kept (said-whole p) short)
+    turn-short-buffer other short differ s e p = differ (sym e ∙ kept _ _ _ (said-whole p) short)

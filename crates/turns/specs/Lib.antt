@@ -1,4 +1,3 @@
 pub mod Printed
 pub mod Turned
-pub mod Telling
 pub mod Steps

@@ -12,7 +12,7 @@ use Rattle.input.specs.declared.Head.{Head}
 use Rattle.input.specs.declared.Head.the-variants as head
 use Rattle.input.specs.declared.Run.{Run}
 use Rattle.input.specs.declared.Run.the-variants as run
-use Rattle.input.specs.Input.{headOf, headSize, imageIn, clockIn, runOf, runSize}
+use Rattle.input.specs.Input.{headFound, headSize, imageIn, clockIn, runFound, runSize}
 use Rattle.printing.specs.Line.{cutLine, newline, lineOf}
 
 -- the fixed words, each on a line of its own: version, image; and cut (`printing`)
@@ -44,7 +44,7 @@ afterHead head.Image = lastTurn imageLine cardAtPowerOn
 afterHead head.Whole = turnBy [] cardAtPowerOn true
 
 unfoldable pub headTurn : List ℕ → Turn
-headTurn read = afterHead (headOf read)
+headTurn read = afterHead (headFound read)
 
 -- the line of a gap: run number, result number, order, reply
 unfoldable pub lineTurn : ℕ → Outcome → Turn
@@ -54,14 +54,14 @@ lineTurn number o = turnBy (lineOf number (o .number) (o .order) (o .reply)) (o 
 unfoldable pub gapTurn : Card → List ℕ → List ℕ → ℕ → Turn
 gapTurn card image clock number = lineTurn number (gapped card image clock 261)
 
--- a run with its length: the input ends before it; it is cut, and not given to the card; or its octets are put in, and a gap follows
+-- a run with its length: the input ends before it; it is cut, and not put in; or its octets are put in, and a gap follows
 unfoldable pub afterRun : Run → Card → List ℕ → List ℕ → ℕ → List ℕ → Turn
 afterRun run.End card image clock number octets = lastTurn [] card
 afterRun run.Cut card image clock number octets = lastTurn cutLine card
 afterRun run.Whole card image clock number octets = gapTurn (withOctets card (drop 2 octets)) image clock number
 
 unfoldable pub runTurn : Card → List ℕ → List ℕ → ℕ → List ℕ → Turn
-runTurn card image clock number octets = afterRun (runOf octets) card image clock number octets
+runTurn card image clock number octets = afterRun (runFound octets) card image clock number octets
 
 -- what is left of an input begins with a run and its length
 abbrev pub firstRun : List ℕ → List ℕ
@@ -70,16 +70,17 @@ firstRun rest = take (runSize rest) rest
 abbrev pub behindRun : List ℕ → List ℕ
 behindRun rest = drop (runSize rest) rest
 
--- the texts of the runs in what is left of an input, from a run number on: each run meets the card that the one before it left. The fuel ends
--- the recursion; the length of what is left is always enough (`proofs/Steps`)
-unfoldable pub runsText : ℕ → List ℕ → List ℕ → Card → ℕ → List ℕ → List ℕ
-runsText zero image clock card number rest = []
-runsText (suc fuel) image clock card number rest =
-    let t = runTurn card image clock number (firstRun rest) in
-    t .text ++ (if t .more then runsText fuel image clock (t .card) (number + 1) (behindRun rest) else [])
+-- the turn of that run, behind another turn: it meets the card that the other left
+abbrev pub nextTurn : List ℕ → List ℕ → Turn → ℕ → List ℕ → Turn
+nextTurn image clock t number rest = runTurn (t .card) image clock number (firstRun rest)
 
--- all that is printed: the head's text, and the runs' from number 1 on
+-- the texts from a turn on: its own and, where a run may follow, those from the next turn on, with the next number. The fuel ends the recursion;
+-- the length of what is left is always enough (`proofs/Steps`)
+unfoldable pub turnsText : ℕ → List ℕ → List ℕ → Turn → ℕ → List ℕ → List ℕ
+turnsText zero image clock t number rest = t .text
+turnsText (suc fuel) image clock t number rest =
+    t .text ++ (if t .more then turnsText fuel image clock (nextTurn image clock t number rest) (number + 1) (behindRun rest) else [])
+
+-- all that is printed: the texts from the head on, and the first run has number 1
 unfoldable pub printed : List ℕ → List ℕ
-printed input =
-    let t = headTurn input in
-    t .text ++ (if t .more then runsText (length input) (imageIn input) (clockIn input) (t .card) 1 (drop (headSize input) input) else [])
+printed input = turnsText (length input) (imageIn input) (clockIn input) (headTurn input) 1 (drop (headSize input) input)

@@ -1,43 +1,63 @@
 -- `after_answer` answers the gap once the frame is answered.
--- By the answer's number. Assumes nothing.
-use Rattle.card.proofs.Gap.{gapped-same, answer-refused, answer-replied, refused-gap, replied-gap}
+-- By what is sent. Assumes nothing.
+use Rattle.card.proofs.Gap.{gapped-same, answer-unreset, answer-remembered, answer-status, refused-gap}
 use borrow.Author.Needs.{needs}
 use Rattle.card.proofs.after_answer.Statement.{statement}
 use Rattle.card.proofs.after_answer.Tie as tie
 
-written-requires : tie.Need-written-requires
-written-requires c κs = search needs
+enum-told : tie.Need-enum-told
+enum-told c = search needs
 
-without-run-requires : tie.Need-without-run-requires
-without-run-requires c κs = search needs
-
-linked-by-requires : tie.Need-linked-by-requires
-linked-by-requires c κs = search needs
-
-same-length : tie.Need-same-length
-same-length c = search needs
-
-returns : tie.Need-returns
-returns c = gapped-same (answer-replied _ _ (c .before .before .before .before .before .before .before .before .before .if1 .taken)) (replied-gap _ (c .before .before .before .before .before .before .before .before .before .before .before .args .answered) (c .before .before .before .before .written .ensures) (rw (c .before .without-run .ensures) at (c .linked-by .ensures)))
-
-without-run-requires-2 : tie.Need-without-run-requires-2
-without-run-requires-2 c κs = search needs
+left-with-requires : tie.Need-left-with-requires
+left-with-requires c κs = search needs
 
 refused-requires : tie.Need-refused-requires
 refused-requires c κs = search needs
 
+enum-told-2 : tie.Need-enum-told-2
+enum-told-2 c = search needs
+
+replied-requires : tie.Need-replied-requires
+replied-requires c κs = search needs
+
+enum-known-sends : tie.Need-enum-known-sends
+enum-known-sends c = search needs
+
+plain-requires : tie.Need-plain-requires
+plain-requires c κs = search needs
+
+replied-requires-2 : tie.Need-replied-requires-2
+replied-requires-2 c κs = search needs
+
+returns : tie.Need-returns
+returns c = gapped-same _ _ _ (answer-unreset _ _ (c .before .before .enum-told .given .1)) (refused-gap _ _ _ (rw (c .before .left-with .ensures) at (c .refused .ensures)))
+
+same-length : tie.Need-same-length
+same-length c = search needs
+
 returns-2 : tie.Need-returns-2
-returns-2 c = gapped-same (answer-refused _ _ (c .before .before .if1 .left)) (refused-gap _ _ _ (rw (c .before .without-run2 .ensures) at (c .refused .ensures)))
+returns-2 c = gapped-same _ _ _ (answer-remembered _ _ (c .before .before .before .before .enum-told2 .given .1)) (c .before .before .replied .ensures)
+
+same-length-2 : tie.Need-same-length-2
+same-length-2 c = search needs
+
+returns-3 : tie.Need-returns-3
+returns-3 c = gapped-same _ _ _ (answer-status _ _ _ (c .before .before .before .before .before .before .sends .given .1)) (rw (c .before .before .before .before .plain .ensures) at (c .before .before .replied2 .ensures))
 
 pub after-answer-spec : {M : Type 1} → statement M
 after-answer-spec =
     tie.close
     (tie.spec
-    written-requires
-    without-run-requires
-    linked-by-requires
-    same-length
-    returns
-    without-run-requires-2
+    enum-told
+    left-with-requires
     refused-requires
-    returns-2)
+    enum-told-2
+    replied-requires
+    enum-known-sends
+    plain-requires
+    replied-requires-2
+    returns
+    same-length
+    returns-2
+    same-length-2
+    returns-3)

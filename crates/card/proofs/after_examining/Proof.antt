@@ -1,19 +1,43 @@
 -- `after_examining` answers the gap once the run is examined.
--- By the finding's number. Assumes nothing.
-use mathlib.Core.Path.{sym, _∙_}
-use Rattle.card.proofs.Gap.{gapped-same, examined-empty, examined-refused, examined-sound, refused-gap}
+-- By the finding. Assumes nothing.
+use Rattle.card.specs.Gap.{afterExamining}
+use Rattle.card.proofs.Gap.{refused-gap}
 use borrow.Author.Needs.{needs}
 use Rattle.card.proofs.after_examining.Statement.{statement}
 use Rattle.card.proofs.after_examining.Tie as tie
 
+enum-known-finding : tie.Need-enum-known-finding
+enum-known-finding c = search needs
+
 number-requires : tie.Need-number-requires
 number-requires c κs = search needs
+
+damaged-by-requires : tie.Need-damaged-by-requires
+damaged-by-requires c κs = search needs
 
 refused-requires : tie.Need-refused-requires
 refused-requires c κs = search needs
 
-returns : tie.Need-returns
-returns c = gapped-same (examined-empty _ _ _ _ (sym (c .before .before .number .ensures) ∙ c .before .if1 .taken)) (refused-gap _ _ _ (c .refused .ensures))
+enum-told : tie.Need-enum-told
+enum-told c = search needs
+
+left-with-requires : tie.Need-left-with-requires
+left-with-requires c κs = search needs
+
+refused-requires-2 : tie.Need-refused-requires-2
+refused-requires-2 c κs = search needs
+
+enum-told-2 : tie.Need-enum-told-2
+enum-told-2 c = search needs
+
+left-with-requires-2 : tie.Need-left-with-requires-2
+left-with-requires-2 c κs = search needs
+
+refused-requires-3 : tie.Need-refused-requires-3
+refused-requires-3 c κs = search needs
+
+enum-known-finding-2 : tie.Need-enum-known-finding-2
+enum-known-finding-2 c = search needs
 
 answer-requires : tie.Need-answer-requires
 answer-requires c κs = search needs
@@ -21,32 +45,44 @@ answer-requires c κs = search needs
 after-answer-requires : tie.Need-after-answer-requires
 after-answer-requires c κs = search needs
 
+returns : tie.Need-returns
+unfolding afterExamining
+returns c = rw (c .before .before .before .before .finding .given .1) (refused-gap _ _ _ (rw (c .before .damaged-by .ensures, c .before .before .number .ensures) at (c .refused .ensures)))
+
+returns-2 : tie.Need-returns-2
+unfolding afterExamining
+returns-2 c = rw (c .before .before .enum-told .given .1) (refused-gap _ _ _ (rw (c .before .left-with .ensures) at (c .refused2 .ensures)))
+
+returns-3 : tie.Need-returns-3
+unfolding afterExamining
+returns-3 c = rw (c .before .before .enum-told2 .given .1) (refused-gap _ _ _ (rw (c .before .left-with2 .ensures) at (c .refused3 .ensures)))
+
 same-length : tie.Need-same-length
 same-length c = search needs
 
-returns-2 : tie.Need-returns-2
-returns-2 c = gapped-same (examined-sound _ _ _ _ (sym (c .before .before .before .before .before .before .before .number .ensures) ∙ c .before .before .before .before .before .if2 .taken)) (rw (c .before .before .before .before .answer .ensures) at (c .before .before .after-answer .ensures))
-
-without-run-requires : tie.Need-without-run-requires
-without-run-requires c κs = search needs
-
-refused-requires-2 : tie.Need-refused-requires-2
-refused-requires-2 c κs = search needs
-
-returns-3 : tie.Need-returns-3
-returns-3 c = gapped-same (examined-refused _ _ _ _ (λ e. c .before .before .before .if1 .left (c .before .before .before .before .number .ensures ∙ e)) (λ e. c .before .before .if2 .left (c .before .before .before .before .number .ensures ∙ e))) (refused-gap _ _ _ (rw (c .before .without-run .ensures, c .before .before .before .before .number .ensures) at (c .refused2 .ensures)))
+returns-4 : tie.Need-returns-4
+unfolding afterExamining
+returns-4 c = rw (c .before .before .before .before .before .before .finding2 .given .1, ← (c .before .before .before .before .answer .ensures)) (c .before .before .after-answer .ensures)
 
 pub after-examining-spec : {M : Type 1} → statement M
 after-examining-spec =
     tie.close
     (tie.spec
+    enum-known-finding
     number-requires
+    damaged-by-requires
     refused-requires
-    returns
+    enum-told
+    left-with-requires
+    refused-requires-2
+    enum-told-2
+    left-with-requires-2
+    refused-requires-3
+    enum-known-finding-2
     answer-requires
     after-answer-requires
-    same-length
+    returns
     returns-2
-    without-run-requires
-    refused-requires-2
-    returns-3)
+    returns-3
+    same-length
+    returns-4)

@@ -1,7 +1,6 @@
--- `written` writes a reply that is meant.
+-- `written` writes a reply.
 -- The buffer is long enough. Assumes nothing.
-use Rattle.card.proofs.Gap.{sent-whole, sent-never-short}
-use Rattle.card.specs.Gap.{octetsMeant}
+use Rattle.frame.proofs.Writing.{written-whole, never-short}
 use borrow.Author.Needs.{needs}
 use Rattle.card.proofs.written.Statement.{statement}
 use Rattle.card.proofs.written.Tie as tie
@@ -19,15 +18,13 @@ same-length : tie.Need-same-length
 same-length c = search needs
 
 returns : tie.Need-returns
-unfolding octetsMeant
-returns c = absurd (sent-never-short (c .before .before .before .before .before .before .before .before .before .pre) (rw (c .enum-told .given .1) at (c .before .before .before .before .write .ensures)))
+returns c = absurd (never-short _ _ (c .before .before .before .before .before .before .before .pre) (rw (c .enum-told .given .1) at (c .before .before .before .before .write .ensures)))
 
 same-length-2 : tie.Need-same-length-2
 same-length-2 c = search needs
 
 returns-2 : tie.Need-returns-2
-unfolding octetsMeant
-returns-2 c = sent-whole (c .before .before .before .before .before .before .before .before .before .before .pre) _ (rw (c .before .length .given .1) at (c .before .before .before .before .before .write .ensures))
+returns-2 c = written-whole _ _ (c .before .before .before .before .before .before .before .before .pre) _ (rw (c .before .length .given .1) at (c .before .before .before .before .before .write .ensures))
 
 pub written-spec : {M : Type 1} → statement M
 written-spec =

@@ -1,4 +1,4 @@
--- `choice::walk` answers the place of the n-th chosen among the records from a place on, and how many of n are left.
+-- `choice::walk` answers the place of the n-th chosen among the records from a place on.
 -- The loop's invariant: what is left to pass from here on comes to the same. Assumes nothing.
 use Prim.Native.Nat.{_-_}
 use mathlib.Core.Path.{_≡_, refl, _∙_}
@@ -7,13 +7,13 @@ use native.Mathlib.Omega.{arith}
 use lib.ListN.{length}
 use Rattle.records.specs.Records.{placeAfter}
 use Rattle.records.proofs.Records.{stands, stands-not, after-within}
-use Rattle.choice.specs.Choice.{placesFrom}
-use Rattle.choice.proofs.Chosen.{walked, chosen-there, walk-end, walk-here, walk-skip, walk-pass, walk-answers}
+use Rattle.choice.specs.Choice.{placesFrom, nthPlace}
+use Rattle.choice.proofs.Chosen.{chosen-there, walk-end, walk-here, walk-skip, walk-pass}
 use Rattle.choice.proofs.walk.Statement.{statement}
 use Rattle.choice.proofs.walk.Tie as tie
 
 abbrev Inv-loop : tie.InvT-loop
-Inv-loop image query from n at₀ left₀ next₀ at left next = (next ≡ placeAfter image at) × (walked left (placesFrom query image at) ≡ walked n (placesFrom query image from))
+Inv-loop image query from n at₀ left₀ next₀ at left next = (next ≡ placeAfter image at) × (nthPlace left (placesFrom query image at) ≡ nthPlace n (placesFrom query image from))
 
 abbrev μ-loop : tie.MeasureT-loop
 μ-loop image query from n at₀ left₀ next₀ at left next = length image - at
@@ -35,7 +35,7 @@ returns c =
     let l = c .before .before .before .before .before .loop in
     let w = stands _ _ (l .inv .0) (c .before .before .before .before .loop-test .taken) in
     let hit = chosen-there _ _ _ w (c .before .before .is-chosen .ensures) (c .before .if1 .taken) in
-    walk-answers (walk-here _ _ _ _ w hit (c .if2 .taken) ∙ l .inv .1)
+    walk-here _ _ _ _ w hit (c .if2 .taken) ∙ l .inv .1
 
 sub-left : tie.Need-sub-left Inv-loop μ-loop
 sub-left c = search needs
@@ -67,7 +67,7 @@ loop-again-2 c =
 returns-2 : tie.Need-returns-2 Inv-loop μ-loop
 returns-2 c =
     let l = c .before .loop in
-    walk-answers (walk-end _ _ _ _ (stands-not _ _ (l .inv .0) (c .loop-test .left)) ∙ l .inv .1)
+    walk-end _ _ _ _ (stands-not _ _ (l .inv .0) (c .loop-test .left)) ∙ l .inv .1
 
 pub walk-spec : {M : Type 1} → statement M
 walk-spec =

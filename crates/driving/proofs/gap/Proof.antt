@@ -16,9 +16,6 @@ lent-requires c κs = search needs
 line-requires : tie.Need-line-requires
 line-requires c κs = search needs
 
-with-card-requires : tie.Need-with-card-requires
-with-card-requires c κs = search needs
-
 same-length : tie.Need-same-length
 same-length c = search needs
 
@@ -28,8 +25,8 @@ same-length-2 c = search needs
 returns : tie.Need-returns
 unfolding gapStep benchOf
 returns c =
-    gap-stepped _ _ (c .before .before .before .before .before .before .before .before .before .lent .ensures)
-    (c .before .before .before .line .ensures) (c .with-card .ensures)
+    gap-stepped _ _ _ _ _ (c .before .before .before .before .before .before .before .before .lent .ensures)
+    (c .before .before .line .ensures)
 
 pub gap-spec : {M : Type 1} → statement M
 gap-spec =
@@ -38,7 +35,6 @@ gap-spec =
     cast-lent
     lent-requires
     line-requires
-    with-card-requires
     same-length
     same-length-2
     returns)

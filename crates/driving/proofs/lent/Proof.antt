@@ -22,7 +22,7 @@ same-length c = search needs
 returns : tie.Need-returns
 returns c =
     let a = c .before .before .before .before .before .before .before .args in
-    gap-first (a .buffer .now) (a .room) (search needs) (search needs) (c .before .before .gap .ensures)
+    gap-first _ (a .buffer .now) (a .room) (search needs) (search needs) (c .before .before .gap .ensures)
 
 gap-requires-2 : tie.Need-gap-requires-2
 gap-requires-2 c κs = search needs

@@ -5,9 +5,6 @@ use Rattle.driving.proofs.Stepping.{stood-whole, stood-not}
 use Rattle.driving.proofs.stand.Statement.{statement}
 use Rattle.driving.proofs.stand.Tie as tie
 
-part-requires : tie.Need-part-requires
-part-requires c κs = search needs
-
 put-requires : tie.Need-put-requires
 put-requires c κs = search needs
 
@@ -15,18 +12,13 @@ same-length : tie.Need-same-length
 same-length c = search needs
 
 returns : tie.Need-returns
-returns c =
-    stood-whole (c .before .before .before .before .before .before .before .before .args .call .now) _
-    (c .before .before .before .before .before .part .ensures) (c .before .before .before .put .ensures) (c .if1 .taken)
+returns c = stood-whole _ _ _ (c .before .before .before .put .ensures) (c .if1 .taken)
 
 same-length-2 : tie.Need-same-length-2
 same-length-2 c = search needs
 
 returns-2 : tie.Need-returns-2
-returns-2 c =
-    stood-not (c .before .before .before .before .before .before .before .before .args .call .now) _
-    (c .before .before .before .before .before .part .ensures) (c .before .before .before .put .ensures) (c .if1 .left)
+returns-2 c = stood-not _ _ _ (c .before .before .before .put .ensures) (c .if1 .left)
 
 pub stand-spec : {M : Type 1} → statement M
-stand-spec =
-    tie.close (tie.spec part-requires put-requires same-length returns same-length-2 returns-2)
+stand-spec = tie.close (tie.spec put-requires same-length returns same-length-2 returns-2)

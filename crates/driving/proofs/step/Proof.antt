@@ -1,11 +1,10 @@
 -- `step` does a call.
 -- By what the call is found to be. Assumes nothing.
-use mathlib.Core.Path.{sym, _∙_}
 use borrow.Author.Needs.{needs}
 use Rattle.input.specs.declared.Call.the-variants as call
 use Rattle.driving.specs.Driven.{withImage, withClock, withRoom, withCard, afterCall}
-use Rattle.driving.specs.Stepped.{benchOf, heldOf, heldCard, heldClock, heldRoom}
-use Rattle.driving.proofs.Stepping.{clock-whole, last-stepped, silent-stepped, call-stepped}
+use Rattle.driving.specs.Stepped.{benchOf}
+use Rattle.driving.proofs.Stepping.{rest-all, last-stepped, silent-stepped, call-stepped}
 use Rattle.driving.proofs.step.Statement.{statement}
 use Rattle.driving.proofs.step.Tie as tie
 
@@ -48,20 +47,32 @@ silent-requires c κs = search needs
 enum-told-5 : tie.Need-enum-told-5
 enum-told-5 c = search needs
 
-with-clock-requires : tie.Need-with-clock-requires
-with-clock-requires c κs = search needs
+clock-at-requires : tie.Need-clock-at-requires
+clock-at-requires c κs = search needs
+
+silent-requires-2 : tie.Need-silent-requires-2
+silent-requires-2 c κs = search needs
 
 enum-told-6 : tie.Need-enum-told-6
 enum-told-6 c = search needs
 
-with-room-requires : tie.Need-with-room-requires
-with-room-requires c κs = search needs
+length-of-2-requires : tie.Need-length-of-2-requires
+length-of-2-requires c κs = search needs
+
+silent-requires-3 : tie.Need-silent-requires-3
+silent-requires-3 c κs = search needs
 
 enum-told-7 : tie.Need-enum-told-7
 enum-told-7 c = search needs
 
-with-octets-requires : tie.Need-with-octets-requires
-with-octets-requires c κs = search needs
+part-requires : tie.Need-part-requires
+part-requires c κs = search needs
+
+octet-by-octet-requires : tie.Need-octet-by-octet-requires
+octet-by-octet-requires c κs = search needs
+
+silent-requires-4 : tie.Need-silent-requires-4
+silent-requires-4 c κs = search needs
 
 enum-told-8 : tie.Need-enum-told-8
 enum-told-8 c = search needs
@@ -75,8 +86,8 @@ same-length c = search needs
 returns : tie.Need-returns
 unfolding afterCall
 returns c =
-    call-stepped _ _ call.End (c .before .before .before .before .before .before .before .judge-call .ensures)
-    (c .before .before .before .before .before .enum-told .given .1) (last-stepped _ _ _ (c .before .before .last .ensures))
+    call-stepped _ _ _ call.End (c .before .before .before .before .before .before .before .judge-call .ensures)
+    (c .before .before .before .before .before .enum-told .given .1) (last-stepped _ _ _ _ _ (c .before .before .last .ensures))
 
 same-length-2 : tie.Need-same-length-2
 same-length-2 c = search needs
@@ -84,8 +95,8 @@ same-length-2 c = search needs
 returns-2 : tie.Need-returns-2
 unfolding afterCall
 returns-2 c =
-    call-stepped _ _ call.Cut (c .before .before .before .before .before .before .before .judge-call .ensures)
-    (c .before .before .before .before .before .enum-told2 .given .1) (last-stepped _ _ _ (c .before .before .last2 .ensures))
+    call-stepped _ _ _ call.Cut (c .before .before .before .before .before .before .before .judge-call .ensures)
+    (c .before .before .before .before .before .enum-told2 .given .1) (last-stepped _ _ _ _ _ (c .before .before .last2 .ensures))
 
 same-length-3 : tie.Need-same-length-3
 same-length-3 c = search needs
@@ -93,33 +104,32 @@ same-length-3 c = search needs
 returns-3 : tie.Need-returns-3
 unfolding afterCall
 returns-3 c =
-    call-stepped _ _ call.Wrong (c .before .before .before .before .before .before .before .judge-call .ensures)
-    (c .before .before .before .before .before .enum-told3 .given .1) (last-stepped _ _ _ (c .before .before .last3 .ensures))
+    call-stepped _ _ _ call.Wrong (c .before .before .before .before .before .before .before .judge-call .ensures)
+    (c .before .before .before .before .before .enum-told3 .given .1) (last-stepped _ _ _ _ _ (c .before .before .last3 .ensures))
 
 returns-4 : tie.Need-returns-4
-unfolding afterCall benchOf heldOf withImage
+unfolding afterCall benchOf withImage
 returns-4 c =
-    call-stepped _ _ call.Image (c .before .before .before .judge-call .ensures) (c .before .enum-told4 .given .1)
-    (silent-stepped _ (c .silent .ensures))
+    call-stepped _ _ _ call.Image (c .before .before .before .judge-call .ensures) (c .before .enum-told4 .given .1)
+    (silent-stepped _ _ (c .silent .ensures))
 
 returns-5 : tie.Need-returns-5
-unfolding afterCall benchOf heldOf withClock heldClock
+unfolding afterCall benchOf withClock
 returns-5 c =
-    let found = sym (c .before .before .before .judge-call .ensures) ∙ c .before .enum-told5 .given .1 in
-    call-stepped _ _ call.Clock (c .before .before .before .judge-call .ensures) (c .before .enum-told5 .given .1)
-    (silent-stepped _ (rw (clock-whole _ found) at (c .with-clock .ensures)))
+    call-stepped _ _ _ call.Clock (c .before .before .before .before .judge-call .ensures) (c .before .before .enum-told5 .given .1)
+    (silent-stepped _ _ (rw (c .before .clock-at .ensures) at (c .silent2 .ensures)))
 
 returns-6 : tie.Need-returns-6
-unfolding afterCall benchOf heldOf withRoom heldRoom
+unfolding afterCall benchOf withRoom
 returns-6 c =
-    call-stepped _ _ call.Room (c .before .before .before .judge-call .ensures) (c .before .enum-told6 .given .1)
-    (silent-stepped _ (c .with-room .ensures))
+    call-stepped _ _ _ call.Room (c .before .before .before .before .judge-call .ensures) (c .before .before .enum-told6 .given .1)
+    (silent-stepped _ _ (rw (c .before .length-of-2 .ensures) at (c .silent3 .ensures)))
 
 returns-7 : tie.Need-returns-7
-unfolding afterCall benchOf heldOf withCard heldCard
+unfolding afterCall benchOf withCard
 returns-7 c =
-    call-stepped _ _ call.Octets (c .before .before .before .judge-call .ensures) (c .before .enum-told7 .given .1)
-    (silent-stepped _ (c .with-octets .ensures))
+    call-stepped _ _ _ call.Octets (c .before .before .before .before .before .judge-call .ensures) (c .before .before .before .enum-told7 .given .1)
+    (silent-stepped _ _ (rw (c .before .octet-by-octet .ensures, c .before .before .part .ensures, rest-all) at (c .silent4 .ensures)))
 
 same-length-4 : tie.Need-same-length-4
 same-length-4 c = search needs
@@ -130,7 +140,7 @@ same-length-5 c = search needs
 returns-8 : tie.Need-returns-8
 unfolding afterCall
 returns-8 c =
-    call-stepped _ _ call.Gap (c .before .before .before .before .before .before .before .before .before .judge-call .ensures)
+    call-stepped _ _ _ call.Gap (c .before .before .before .before .before .before .before .before .before .judge-call .ensures)
     (c .before .before .before .before .before .before .before .enum-told8 .given .1) (c .before .before .before .before .gap .ensures)
 
 pub step-spec : {M : Type 1} → statement M
@@ -150,11 +160,15 @@ step-spec =
     enum-told-4
     silent-requires
     enum-told-5
-    with-clock-requires
+    clock-at-requires
+    silent-requires-2
     enum-told-6
-    with-room-requires
+    length-of-2-requires
+    silent-requires-3
     enum-told-7
-    with-octets-requires
+    part-requires
+    octet-by-octet-requires
+    silent-requires-4
     enum-told-8
     gap-requires
     same-length

@@ -2,10 +2,19 @@
 -- The octets it names are offered by computation, and no others by a test over all 256. Assumes nothing.
 use borrow.Author.Needs.{needs}
 use Rattle.octets.proofs.Choice.{tests}
-use Rattle.frame.proofs.Control.{fixed-only}
-use Rattle.frame.specs.Control.{offered}
+use Rattle.frame.proofs.Controls.{fixed-only}
+use Rattle.frame.specs.Controls.{offered}
 use Rattle.frame.proofs.fixed_service.Statement.{statement}
 use Rattle.frame.proofs.fixed_service.Tie as tie
+
+add-if2 : tie.Need-add-if2
+add-if2 c = search needs
+
+add-if4 : tie.Need-add-if4
+add-if4 c = search needs
+
+add-if6 : tie.Need-add-if6
+add-if6 c = search needs
 
 returns : tie.Need-returns
 unfolding offered
@@ -36,4 +45,4 @@ returns-7 c = fixed-only _ (search needs) (search tests)
 
 pub fixed-service-spec : {M : Type 1} → statement M
 fixed-service-spec =
-    tie.close (tie.spec returns returns-2 returns-3 returns-4 returns-5 returns-6 returns-7)
+    tie.close (tie.spec returns add-if2 returns-2 returns-3 add-if4 returns-4 returns-5 add-if6 returns-6 returns-7)

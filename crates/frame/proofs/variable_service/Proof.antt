@@ -2,10 +2,13 @@
 -- The octets it names are offered by computation, and no others by a test over all 256. Assumes nothing.
 use borrow.Author.Needs.{needs}
 use Rattle.octets.proofs.Choice.{tests}
-use Rattle.frame.proofs.Control.{variable-only}
-use Rattle.frame.specs.Control.{offered}
+use Rattle.frame.proofs.Controls.{variable-only}
+use Rattle.frame.specs.Controls.{offered}
 use Rattle.frame.proofs.variable_service.Statement.{statement}
 use Rattle.frame.proofs.variable_service.Tie as tie
+
+add-if2 : tie.Need-add-if2
+add-if2 c = search needs
 
 returns : tie.Need-returns
 unfolding offered
@@ -19,4 +22,4 @@ returns-3 : tie.Need-returns-3
 returns-3 c = variable-only _ (search needs) (search tests)
 
 pub variable-service-spec : {M : Type 1} → statement M
-variable-service-spec = tie.close (tie.spec returns returns-2 returns-3)
+variable-service-spec = tie.close (tie.spec returns add-if2 returns-2 returns-3)

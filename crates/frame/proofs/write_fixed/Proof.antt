@@ -32,6 +32,9 @@ slice-aggregate-put c = search needs
 put-requires : tie.Need-put-requires
 put-requires c κs = search needs
 
+cast-result : tie.Need-cast-result
+cast-result c = search needs
+
 same-length : tie.Need-same-length
 same-length c = search needs
 
@@ -54,5 +57,6 @@ write-fixed-spec =
     array-read-t13-2
     slice-aggregate-put
     put-requires
+    cast-result
     same-length
     returns)

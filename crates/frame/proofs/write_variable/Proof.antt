@@ -78,6 +78,9 @@ put-requires-3 c κs = search needs
 cast-result : tie.Need-cast-result
 cast-result c = search needs
 
+cast-result-2 : tie.Need-cast-result-2
+cast-result-2 c = search needs
+
 add-result : tie.Need-add-result
 add-result c = search needs
 
@@ -124,6 +127,7 @@ write-variable-spec =
     slice-aggregate-put-3
     put-requires-3
     cast-result
+    cast-result-2
     add-result
     same-length
     returns)

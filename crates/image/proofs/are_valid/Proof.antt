@@ -1,7 +1,7 @@
 -- `image::are_valid` answers whether both switch dates are valid.
 -- By the answer's cases. Assumes nothing.
 use Rattle.octets.proofs.Choice.{told}
-use Rattle.image.specs.Keys.{validDates}
+use Rattle.image.specs.working.Keys.{validDates}
 use borrow.Author.Needs.{needs}
 use Rattle.image.proofs.are_valid.Statement.{statement}
 use Rattle.image.proofs.are_valid.Tie as tie

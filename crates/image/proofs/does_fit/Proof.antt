@@ -2,7 +2,7 @@
 -- By its three conditions; the key is the record's. Assumes nothing.
 use mathlib.Core.Path.{_∙_}
 use Rattle.octets.proofs.Choice.{told}
-use Rattle.image.proofs.Run.{fits-known, fits-unordered, fits-wrong}
+use Rattle.image.proofs.Runs.{fits-known, fits-unordered, fits-wrong}
 use borrow.Author.Needs.{needs}
 use Rattle.image.proofs.does_fit.Statement.{statement}
 use Rattle.image.proofs.does_fit.Tie as tie

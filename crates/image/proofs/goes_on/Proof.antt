@@ -1,7 +1,7 @@
 -- `image::goes_on` answers whether a key is in order behind the last one, and its point known.
 -- Part by part; the last one's point is known. Assumes nothing.
 use mathlib.Core.Path.{_∙_}
-use Rattle.image.proofs.Run.{by-point, not-by-point, by-address, by-labels}
+use Rattle.image.proofs.Runs.{by-point, not-by-point, by-address, by-labels}
 use borrow.Author.Needs.{needs}
 use Rattle.image.proofs.goes_on.Statement.{statement}
 use Rattle.image.proofs.goes_on.Tie as tie

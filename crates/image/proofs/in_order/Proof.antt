@@ -2,7 +2,7 @@
 -- By the kind. Assumes nothing.
 use borrow.Author.Tests.{eq-eqb, ne-eqb}
 use Rattle.octets.proofs.Choice.{told}
-use Rattle.image.specs.Keys.{keysInOrder}
+use Rattle.image.specs.working.Keys.{keysInOrder}
 use borrow.Author.Needs.{needs}
 use Rattle.image.proofs.in_order.Statement.{statement}
 use Rattle.image.proofs.in_order.Tie as tie

@@ -1,7 +1,7 @@
 -- `image::is_before` answers the order of two keys by point, record address and label.
 -- By the parts of that order. Assumes nothing.
 use borrow.Author.Tests.{eq-eqb, ne-eqb}
-use Rattle.image.specs.Keys.{byKey, keyBefore}
+use Rattle.image.specs.working.Keys.{byKey, keyBefore}
 use borrow.Author.Needs.{needs}
 use Rattle.image.proofs.is_before.Statement.{statement}
 use Rattle.image.proofs.is_before.Tie as tie

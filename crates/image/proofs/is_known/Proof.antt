@@ -2,7 +2,7 @@
 -- By the key's kind, and by what was found. Assumes nothing.
 use mathlib.Core.Path.{ap, sym, _∙_}
 use native.Mathlib.Omega.{arith}
-use Rattle.image.specs.Keys.{isFound}
+use Rattle.image.specs.working.Keys.{isFound}
 use Rattle.image.proofs.Known.{known-low, known-high}
 use borrow.Author.Needs.{needs}
 use Rattle.image.proofs.is_known.Statement.{statement}

@@ -6,7 +6,7 @@ use lib.Dec.{leb}
 use Rattle.octets.proofs.Choice.{told}
 use Rattle.label.specs.Label.{inMinute}
 use Rattle.label.proofs.Label.{compared, b-earlier, b-later, b-same-minute}
-use Rattle.image.proofs.Run.{at-most}
+use Rattle.image.proofs.Runs.{at-most}
 use borrow.Author.Needs.{needs}
 use Rattle.image.proofs.is_late.Statement.{statement}
 use Rattle.image.proofs.is_late.Tie as tie

@@ -2,16 +2,17 @@
 -- The loop's invariant: what is left of the test from here on, behind the last key, is the whole test. Assumes nothing.
 use Prim.Native.Nat.{_-_}
 use mathlib.Core.Path.{_≡_, _∙_}
+use mathlib.Core.Bool.{true, false}
 use borrow.Author.Needs.{needs}
 use native.Mathlib.Omega.{arith}
 use lib.ListN.{length}
 use Rattle.octets.proofs.Choice.{told}
 use Rattle.records.specs.Records.{placeAfter}
 use Rattle.records.proofs.Records.{stands, stands-not, after-within}
-use Rattle.parts.proofs.Parts.{key-whole}
-use Rattle.image.specs.Keys.{orderly, left}
+use Rattle.fields.proofs.Parts.{key-whole}
+use Rattle.image.specs.working.Keys.{orderly, left}
 use Rattle.image.proofs.Keys.{left-end, left-stop, left-all}
-use Rattle.image.proofs.Run.{judged, left-behind, walked-fine, walked-stopped}
+use Rattle.image.proofs.Runs.{passed, left-behind, walk-decides}
 use Rattle.image.proofs.is_orderly.Statement.{statement}
 use Rattle.image.proofs.is_orderly.Tie as tie
 
@@ -43,7 +44,7 @@ run-behind-requires : tie.Need-run-behind-requires Inv-loop μ-loop
 run-behind-requires c κs =
     let l = c .before .before .before .before .loop in
     let w = stands _ _ (l .inv .0) (c .before .before .before .loop-test .taken) in
-    judged _ _ _ _ w (c .before .before .key-at .ensures ∙ key-whole _ _ w) (told (c .before .does-fit .ensures) (c .if1 .taken))
+    passed _ _ _ _ w (c .before .before .key-at .ensures ∙ key-whole _ _ w) (told (c .before .does-fit .ensures) (c .if1 .taken))
 
 after-requires-2 : tie.Need-after-requires-2 Inv-loop μ-loop
 after-requires-2 c κs = search needs
@@ -61,7 +62,7 @@ loop-again c =
     let k = c .before .before .before .before .before .before .key-at .ensures ∙ key-whole _ _ w in
     let walk = c .before .before .before .run-behind in (
       c .after2 .ensures,
-      walked-fine (walk .result) (walk .ensures) (c .before .before .if2 .taken)
+      walk-decides (walk .result) (walk .ensures) true (c .before .before .if2 .taken)
           ∙ left-behind _ _ _ _ w k (l .inv .0)
           (told (c .before .before .before .before .before .does-fit .ensures) (c .before .before .before .before .if1 .taken))
           ∙ l .inv .1,
@@ -73,7 +74,7 @@ returns c =
     let w = stands _ _ (l .inv .0) (c .before .before .before .before .before .loop-test .taken) in
     let k = c .before .before .before .before .key-at .ensures ∙ key-whole _ _ w in
     let walk = c .before .run-behind in
-    walked-stopped (walk .result) (walk .ensures) (c .if2 .left)
+    walk-decides (walk .result) (walk .ensures) false (c .if2 .left)
     ∙ left-behind _ _ _ _ w k (l .inv .0) (told (c .before .before .before .does-fit .ensures) (c .before .before .if1 .taken)) ∙ l .inv .1
 
 returns-2 : tie.Need-returns-2 Inv-loop μ-loop

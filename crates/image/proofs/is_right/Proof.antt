@@ -2,7 +2,7 @@
 -- By the kind; the key is the record's. Assumes nothing.
 use mathlib.Core.Path.{ap, sym, _∙_}
 use Rattle.octets.proofs.Choice.{told}
-use Rattle.image.specs.Keys.{validDates}
+use Rattle.image.specs.working.Keys.{validDates}
 use Rattle.image.proofs.Keys.{same-kind, right-2, right-3, right-4, right-5, right-other}
 use borrow.Author.Needs.{needs}
 use Rattle.image.proofs.is_right.Statement.{statement}

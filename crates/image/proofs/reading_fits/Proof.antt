@@ -2,10 +2,10 @@
 -- By its record address, its label's moment, and the order by instants. Assumes nothing.
 use mathlib.Core.Path.{ap, _∙_}
 use Rattle.octets.proofs.Choice.{told}
-use Rattle.label.proofs.Label.{moment-a-facts, compared}
+use Rattle.label.proofs.Label.{moment-facts, compared}
 use Rattle.image.specs.Image.{readingRecord}
-use Rattle.image.specs.Keys.{byKey}
-use Rattle.image.proofs.Run.{reading-right, wrong-label, wrong-address, right-then, reading-order}
+use Rattle.image.specs.working.Keys.{byKey}
+use Rattle.image.proofs.Runs.{reading-right, wrong-label, wrong-address, right-then, reading-order}
 use borrow.Author.Needs.{needs}
 use Rattle.image.proofs.reading_fits.Statement.{statement}
 use Rattle.image.proofs.reading_fits.Tie as tie
@@ -20,7 +20,7 @@ returns : tie.Need-returns
 returns c =
     let start = c .before .before .before .before .before .before .before in
     let b = start .pre .0 in
-    let m = moment-a-facts _ _ (start .pre .1) in
+    let m = moment-facts _ _ _ (start .pre .1) in
     let later = compared _ _ _ _ (start .fits .minute .sfits) (c .before .struct-told .given .1 .0 .1) (b .kept) (m .1) in
     right-then _ _ _ _ _ (reading-right _ (b .next-kind))
     (told (c .before .before .before .before .is-reading-record .ensures) (c .before .before .before .if2 .taken))
@@ -35,7 +35,7 @@ returns-2 c =
 returns-3 : tie.Need-returns-3
 returns-3 c =
     let p = c .before .before .pre in
-    wrong-label _ _ _ (readingRecord _) _ (reading-right _ (p .0 .next-kind)) (told (moment-a-facts _ _ (p .1) .0) (c .if1 .left))
+    wrong-label _ _ _ (readingRecord _) _ (reading-right _ (p .0 .next-kind)) (told (moment-facts _ _ _ (p .1) .0) (c .if1 .left))
 
 pub reading-fits-spec : {M : Type 1} → statement M
 reading-fits-spec =

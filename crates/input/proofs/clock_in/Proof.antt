@@ -1,39 +1,27 @@
 -- `clock_in` answers the clock of a head.
--- Seven octets at most are put over seven zeros. Assumes nothing.
-use Rattle.input.proofs.Input.{clock-is}
+-- It stands behind the image. Assumes nothing.
 use borrow.Author.Needs.{needs}
+use Rattle.input.specs.Input.{clockIn}
 use Rattle.input.proofs.clock_in.Statement.{statement}
 use Rattle.input.proofs.clock_in.Tie as tie
-
-slice-aggregate-put : tie.Need-slice-aggregate-put
-slice-aggregate-put c = search needs
 
 length-of-2-requires : tie.Need-length-of-2-requires
 length-of-2-requires c κs = search needs
 
-cast-part : tie.Need-cast-part
-cast-part c = search needs
+cast-clock-at : tie.Need-cast-clock-at
+cast-clock-at c = search needs
 
-add-part : tie.Need-add-part
-add-part c = search needs
+add-clock-at : tie.Need-add-clock-at
+add-clock-at c = search needs
 
-part-requires : tie.Need-part-requires
-part-requires c κs = search needs
-
-put-requires : tie.Need-put-requires
-put-requires c κs = search needs
+clock-at-requires : tie.Need-clock-at-requires
+clock-at-requires c κs = search needs
 
 returns : tie.Need-returns
-returns c = clock-is _ (c .before .before .before .length-of-2 .ensures) (c .before .before .part .ensures) (c .before .put .ensures)
+unfolding clockIn
+returns c = rw (c .before .length-of-2 .ensures) at (c .clock-at .ensures)
 
 pub clock-in-spec : {M : Type 1} → statement M
 clock-in-spec =
     tie.close
-    (tie.spec
-    slice-aggregate-put
-    length-of-2-requires
-    cast-part
-    add-part
-    part-requires
-    put-requires
-    returns)
+    (tie.spec length-of-2-requires cast-clock-at add-clock-at clock-at-requires returns)

@@ -1,23 +1,16 @@
 -- `mirrored` answers the mirror of a request.
--- One octet is stored. Assumes nothing.
-use Rattle.message.specs.Mirror.{mirror}
+-- The array is mirrored, the length stays. Assumes nothing.
+use Rattle.message.specs.Mirror.{mirrorOf}
 use borrow.Author.Needs.{needs}
 use Rattle.message.proofs.mirrored.Statement.{statement}
 use Rattle.message.proofs.mirrored.Tie as tie
 
-array-read-cause-octet : tie.Need-array-read-cause-octet
-array-read-cause-octet c = search needs
-
-cause-octet-requires : tie.Need-cause-octet-requires
-cause-octet-requires c κs = search needs
-
-array-write-m : tie.Need-array-write-m
-array-write-m c = search needs
+with-cause-requires : tie.Need-with-cause-requires
+with-cause-requires c κs = search needs
 
 returns : tie.Need-returns
-unfolding mirror
-returns c = rw (c .cause-octet .ensures)
+unfolding mirrorOf
+returns c = cc
 
 pub mirrored-spec : {M : Type 1} → statement M
-mirrored-spec =
-    tie.close (tie.spec array-read-cause-octet cause-octet-requires array-write-m returns)
+mirrored-spec = tie.close (tie.spec with-cause-requires returns)

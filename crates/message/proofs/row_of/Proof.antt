@@ -4,6 +4,8 @@ use Prim.Native.Nat.{_≤_, _<_, _-_}
 use mathlib.Core.Path.{_≡_, refl, sym, _∙_}
 use borrow.Author.Needs.{needs}
 use lib.ListN.{drop}
+use Rattle.message.specs.declared.Addresses.the-variants.{Only}
+use Rattle.message.specs.declared.Deed.the-variants.{Refused}
 use Rattle.message.specs.declared.Row.{Row}
 use Rattle.message.specs.Table.{row, table, rowIn}
 use Rattle.message.proofs.Table.{row-here, row-further, row-none}
@@ -11,13 +13,13 @@ use Rattle.message.proofs.row_of.Statement.{statement}
 use Rattle.message.proofs.row_of.Tie as tie
 
 abbrev none : Row
-none = row 0 0 0 0
+none = row 0 0 0 0 (Only 0) Refused
 
 abbrev Inv-loop : tie.InvT-loop
-Inv-loop kind rows i₀ i = (i ≤ 10) × (rowIn table kind ≡ rowIn (drop i table) kind)
+Inv-loop type rows i₀ i = (i ≤ 10) × (rowIn table type ≡ rowIn (drop i table) type)
 
 abbrev μ-loop : tie.MeasureT-loop
-μ-loop kind rows i₀ i = 10 - i
+μ-loop type rows i₀ i = 10 - i
 
 loop-holds : tie.Need-loop-holds Inv-loop μ-loop
 unfolding table

@@ -1,6 +1,6 @@
--- `laid` writes a line whose text is kept in a message.
+-- `laid` writes a line whose text is kept.
 -- The octets that count are a part of its array. Assumes nothing.
-use Rattle.message.specs.Kept.{octetsOf}
+use Rattle.octets.specs.Keeping.{octetsOf}
 use borrow.Author.Needs.{needs}
 use Rattle.printing.proofs.laid.Statement.{statement}
 use Rattle.printing.proofs.laid.Tie as tie

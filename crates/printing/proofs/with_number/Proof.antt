@@ -1,7 +1,7 @@
 -- `with_number` adds the figures of a number.
 -- The fewest digits that hold a number are its figures. Assumes nothing.
 use mathlib.Core.Path.{_∙_, ap}
-use Rattle.message.specs.Kept.{added}
+use Rattle.octets.specs.Keeping.{added}
 use Rattle.printing.proofs.Text.{digits-decimal}
 use borrow.Author.Needs.{needs}
 use Rattle.printing.proofs.with_number.Statement.{statement}

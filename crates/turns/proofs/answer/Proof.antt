@@ -2,7 +2,7 @@
 -- By what the gap returns and leaves. Assumes nothing.
 use borrow.Author.Needs.{needs}
 use Rattle.turns.specs.Printed.{gapTurn}
-use Rattle.turns.proofs.Turning.{told-gap}
+use Rattle.turns.proofs.Turning.{gone-turn}
 use Rattle.turns.proofs.answer.Statement.{statement}
 use Rattle.turns.proofs.answer.Tie as tie
 
@@ -23,7 +23,7 @@ same-length c = search needs
 
 returns : tie.Need-returns
 unfolding gapTurn
-returns c = told-gap _ (c .before .before .before .before .before .before .before .gap .ensures) (search needs) (c .before .before .line .ensures)
+returns c = rw (gone-turn _ _ _ (c .before .before .before .before .before .before .gap .ensures)) at (c .before .before .line .ensures)
 
 pub answer-spec : {M : Type 1} → statement M
 answer-spec =

@@ -1,9 +1,10 @@
 -- `start` writes the text of the head.
 -- By what the head is found to be. Assumes nothing.
+use mathlib.Core.Path.{refl}
 use borrow.Author.Needs.{needs}
 use Rattle.input.specs.declared.Head.the-variants as head
 use Rattle.turns.specs.Printed.{afterHead}
-use Rattle.turns.proofs.Turning.{head-turned}
+use Rattle.turns.proofs.Turning.{head-turned, silent-turned}
 use Rattle.turns.proofs.start.Statement.{statement}
 use Rattle.turns.proofs.start.Tie as tie
 
@@ -43,22 +44,14 @@ said-requires-3 c κs = search needs
 enum-told-4 : tie.Need-enum-told-4
 enum-told-4 c = search needs
 
-slice-aggregate-said-4 : tie.Need-slice-aggregate-said-4
-slice-aggregate-said-4 c = search needs
-
-said-requires-4 : tie.Need-said-requires-4
-said-requires-4 c κs = search needs
-
 same-length : tie.Need-same-length
 same-length c = search needs
 
 returns : tie.Need-returns
 unfolding afterHead
 returns c =
-    let found = c .before .before .before .before .before in
-    let judged = found .before .before in
-    head-turned _ head.Version (judged .judge-head .ensures) (found .enum-told .given .1)
-    (rw (judged .before .power-on .ensures) at (c .before .before .said .ensures))
+    let judged = c .before .before .before .before .before .before .before in
+    head-turned _ _ _ head.Version _ (judged .before .power-on .ensures) (judged .judge-head .ensures) (c .before .before .before .before .before .enum-told .given .1) refl (c .before .before .said .ensures)
 
 same-length-2 : tie.Need-same-length-2
 same-length-2 c = search needs
@@ -66,10 +59,8 @@ same-length-2 c = search needs
 returns-2 : tie.Need-returns-2
 unfolding afterHead
 returns-2 c =
-    let found = c .before .before .before .before .before in
-    let judged = found .before .before in
-    head-turned _ head.Cut (judged .judge-head .ensures) (found .enum-told2 .given .1)
-    (rw (judged .before .power-on .ensures) at (c .before .before .said2 .ensures))
+    let judged = c .before .before .before .before .before .before .before in
+    head-turned _ _ _ head.Cut _ (judged .before .power-on .ensures) (judged .judge-head .ensures) (c .before .before .before .before .before .enum-told2 .given .1) refl (c .before .before .said2 .ensures)
 
 same-length-3 : tie.Need-same-length-3
 same-length-3 c = search needs
@@ -77,21 +68,14 @@ same-length-3 c = search needs
 returns-3 : tie.Need-returns-3
 unfolding afterHead
 returns-3 c =
-    let found = c .before .before .before .before .before in
-    let judged = found .before .before in
-    head-turned _ head.Image (judged .judge-head .ensures) (found .enum-told3 .given .1)
-    (rw (judged .before .power-on .ensures) at (c .before .before .said3 .ensures))
-
-same-length-4 : tie.Need-same-length-4
-same-length-4 c = search needs
+    let judged = c .before .before .before .before .before .before .before in
+    head-turned _ _ _ head.Image _ (judged .before .power-on .ensures) (judged .judge-head .ensures) (c .before .before .before .before .before .enum-told3 .given .1) refl (c .before .before .said3 .ensures)
 
 returns-4 : tie.Need-returns-4
 unfolding afterHead
 returns-4 c =
-    let found = c .before .before .before .before .before in
-    let judged = found .before .before in
-    head-turned _ head.Whole (judged .judge-head .ensures) (found .enum-told4 .given .1)
-    (rw (judged .before .power-on .ensures) at (c .before .before .said4 .ensures))
+    let judged = c .before .before in
+    head-turned _ _ _ head.Whole _ (judged .before .power-on .ensures) (judged .judge-head .ensures) (c .enum-told4 .given .1) refl (silent-turned _ _ _)
 
 pub start-spec : {M : Type 1} → statement M
 start-spec =
@@ -109,13 +93,10 @@ start-spec =
     slice-aggregate-said-3
     said-requires-3
     enum-told-4
-    slice-aggregate-said-4
-    said-requires-4
     same-length
     returns
     same-length-2
     returns-2
     same-length-3
     returns-3
-    same-length-4
     returns-4)

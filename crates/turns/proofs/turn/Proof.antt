@@ -40,9 +40,6 @@ octets-requires c κs = search needs
 answer-requires : tie.Need-answer-requires
 answer-requires c κs = search needs
 
-unless-0-requires : tie.Need-unless-0-requires
-unless-0-requires c κs = search needs
-
 same-length : tie.Need-same-length
 same-length c = search needs
 
@@ -50,7 +47,7 @@ returns : tie.Need-returns
 unfolding afterRun
 returns c =
     let found = c .before .before .before .before .before in
-    run-turned _ _ _ _ _ run.End (found .before .before .judge-run .ensures) (found .enum-told .given .1) (c .before .before .said .ensures)
+    run-turned _ _ _ _ _ _ run.End (found .before .before .judge-run .ensures) (found .enum-told .given .1) (c .before .before .said .ensures)
 
 same-length-2 : tie.Need-same-length-2
 same-length-2 c = search needs
@@ -59,18 +56,17 @@ returns-2 : tie.Need-returns-2
 unfolding afterRun
 returns-2 c =
     let found = c .before .before .before .before .before in
-    run-turned _ _ _ _ _ run.Cut (found .before .before .judge-run .ensures) (found .enum-told2 .given .1) (c .before .before .said2 .ensures)
+    run-turned _ _ _ _ _ _ run.Cut (found .before .before .judge-run .ensures) (found .enum-told2 .given .1) (c .before .before .said2 .ensures)
 
 same-length-3 : tie.Need-same-length-3
 same-length-3 c = search needs
 
 returns-3 : tie.Need-returns-3
 returns-3 c =
-    let answered = c .before .before .before in
-    let put = answered .before .before in
-    let found = put .before .before in
-    run-answered _ _ _ _ _ (found .before .before .judge-run .ensures) (found .enum-told3 .given .1) (put .before .part .ensures) (put .octets .ensures)
-    (answered .answer .ensures) (c .unless-0 .ensures)
+    let put = c .before .before .before in
+    let found = put .before .before .before in
+    run-answered _ _ _ _ _ _ (found .before .before .judge-run .ensures) (found .enum-told3 .given .1) (put .before .part .ensures) (put .octets .ensures)
+    (c .before .before .answer .ensures)
 
 pub turn-spec : {M : Type 1} → statement M
 turn-spec =
@@ -87,7 +83,6 @@ turn-spec =
     part-requires
     octets-requires
     answer-requires
-    unless-0-requires
     same-length
     returns
     same-length-2

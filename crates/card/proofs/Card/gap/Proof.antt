@@ -10,7 +10,7 @@ refused-requires : tie.Need-refused-requires
 refused-requires c κs = search needs
 
 returns : tie.Need-returns
-returns c = gapped-same (gap-short _ _ _ _ (c .before .if1 .taken)) (refused-gap _ _ _ (c .refused .ensures))
+returns c = gapped-same _ _ _ (gap-short _ _ _ _ (c .before .if1 .taken)) (refused-gap _ _ _ (c .refused .ensures))
 
 sound-requires : tie.Need-sound-requires
 sound-requires c κs = search needs
@@ -25,13 +25,13 @@ same-length : tie.Need-same-length
 same-length c = search needs
 
 returns-2 : tie.Need-returns-2
-returns-2 c = gapped-same (gap-examined _ _ _ _ (search needs) (told (c .before .before .before .before .before .before .before .sound .ensures) (c .before .before .before .before .before .before .if2 .taken))) (rw (c .before .before .before .before .examine .ensures) at (c .before .before .after-examining .ensures))
+returns-2 c = gapped-same _ _ _ (gap-examined _ _ _ _ (search needs) (told (c .before .before .before .before .before .before .before .sound .ensures) (c .before .before .before .before .before .before .if2 .taken))) (rw (c .before .before .before .before .examine .ensures) at (c .before .before .after-examining .ensures))
 
 refused-requires-2 : tie.Need-refused-requires-2
 refused-requires-2 c κs = search needs
 
 returns-3 : tie.Need-returns-3
-returns-3 c = gapped-same (gap-unsound _ _ _ _ (search needs) (told (c .before .before .sound .ensures) (c .before .if2 .left))) (refused-gap _ _ _ (c .refused2 .ensures))
+returns-3 c = gapped-same _ _ _ (gap-unsound _ _ _ _ (search needs) (told (c .before .before .sound .ensures) (c .before .if2 .left))) (refused-gap _ _ _ (c .refused2 .ensures))
 
 pub gap-spec : {M : Type 1} → statement M
 gap-spec =

@@ -3,7 +3,7 @@
 use mathlib.Core.Path.{ap, sym, _∙_}
 use Rattle.octets.proofs.Choice.{told}
 use Rattle.label.specs.Time.{real}
-use Rattle.label.proofs.Label.{valid-a, instant-counted, instant-not, moment-a}
+use Rattle.label.proofs.Label.{valid-a, instant-counted, instant-not, moment-is}
 use borrow.Author.Needs.{needs}
 use Rattle.label.proofs.LabelA.moment.Statement.{statement}
 use Rattle.label.proofs.LabelA.moment.Tie as tie
@@ -23,12 +23,12 @@ cast-minute c = search needs
 returns : tie.Need-returns
 returns c =
     let valid = told (c .before .before .before .is-valid .ensures) (c .before .before .if1 .taken) in
-    moment-a _ _ _ (sym valid) (instant-counted _ _ (c .minutes .result) (search needs) valid (c .before .date-time .ensures) (c .minutes .ensures))
+    moment-is _ _ _ _ (sym valid) (instant-counted _ _ (c .minutes .result) (search needs) valid (c .before .date-time .ensures) (c .minutes .ensures))
 
 returns-2 : tie.Need-returns-2
 returns-2 c =
     let none = told (c .before .is-valid .ensures) (c .if1 .left) in
-    moment-a _ _ _ (sym none) (sym (instant-not _ none))
+    moment-is _ _ _ _ (sym none) (sym (instant-not _ none))
 
 pub moment-spec : {M : Type 1} → statement M
 moment-spec =

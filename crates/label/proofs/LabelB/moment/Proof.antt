@@ -5,7 +5,7 @@ use native.Mathlib.Omega.{arith}
 use lib.Dec.{leb}
 use Rattle.octets.proofs.Choice.{told, refuted, not-both}
 use Rattle.label.specs.Time.{real}
-use Rattle.label.proofs.Label.{valid-a, valid-b, instant-counted, instant-not, valid-but-millisecond, moment-b}
+use Rattle.label.proofs.Label.{valid-a, valid-b, instant-counted, instant-not, valid-but-millisecond, moment-is}
 use borrow.Author.Needs.{needs}
 use Rattle.label.proofs.LabelB.moment.Statement.{statement}
 use Rattle.label.proofs.LabelB.moment.Tie as tie
@@ -32,20 +32,20 @@ returns : tie.Need-returns
 returns c =
     let minutes = c .before .before .before .minutes in
     let valid = told (c .before .before .before .before .before .before .is-valid .ensures) (c .before .before .before .before .before .if1 .taken) in
-    moment-b _ _ _ (ap (λ n. leb n 999) (c .millisecond .ensures) ∙ valid-but-millisecond _ valid (search needs))
+    moment-is _ _ _ _ (ap (λ n. leb n 999) (c .millisecond .ensures) ∙ valid-but-millisecond _ valid (search needs))
     (instant-counted _ _ (minutes .result) (search needs) valid (c .before .before .before .before .date-time .ensures) (minutes .ensures))
 
 returns-2 : tie.Need-returns-2
 returns-2 c =
     let minutes = c .before .before .minutes in
     let valid = told (c .before .before .before .before .before .is-valid .ensures) (c .before .before .before .before .if1 .taken) in
-    moment-b _ _ _ (refuted _ (λ e. let h = valid-b _ e in omega arith))
+    moment-is _ _ _ _ (refuted _ (λ e. let h = valid-b _ e in omega arith))
     (instant-counted _ _ (minutes .result) (search needs) valid (c .before .before .before .date-time .ensures) (minutes .ensures))
 
 returns-3 : tie.Need-returns-3
 returns-3 c =
     let none = told (c .before .is-valid .ensures) (c .if1 .left) in
-    moment-b _ _ _ (refuted _ (λ e. not-both none (valid-b _ e .valid))) (sym (instant-not _ none))
+    moment-is _ _ _ _ (refuted _ (λ e. not-both none (valid-b _ e .valid))) (sym (instant-not _ none))
 
 pub moment-spec : {M : Type 1} → statement M
 moment-spec =

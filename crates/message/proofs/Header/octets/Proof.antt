@@ -1,7 +1,7 @@
 -- `Header::octets` answers the octets of a header.
 -- Octet by octet. Assumes nothing.
 use Rattle.octets.specs.Numbers.{lowOctets}
-use Rattle.message.specs.Head.{headerOctets}
+use Rattle.message.specs.Headers.{headerOctets}
 use borrow.Author.Needs.{needs}
 use Rattle.message.proofs.Header.octets.Statement.{statement}
 use Rattle.message.proofs.Header.octets.Tie as tie

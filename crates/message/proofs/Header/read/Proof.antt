@@ -1,6 +1,6 @@
 -- `Header::read` answers the header of a message.
 -- Octet by octet. Assumes nothing.
-use Rattle.message.specs.Head.{headerOf}
+use Rattle.message.specs.Headers.{headerOf}
 use borrow.Author.Needs.{needs}
 use Rattle.message.proofs.Header.read.Statement.{statement}
 use Rattle.message.proofs.Header.read.Tie as tie

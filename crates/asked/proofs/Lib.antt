@@ -1,2 +1,0 @@
-mod Determined
-mod RuledOut

@@ -1,3 +1,0 @@
-pub mod Carrying
-mod Determined
-mod RuledOut

@@ -1,0 +1,31 @@
+-- Every public contract of this crate leaves one outcome.
+-- By its one equation. Assumes nothing.
+use Prim.Native.Nat.{ℕ}
+use mathlib.Core.Path.{_≡_}
+use Rattle.octets.proofs.Outcome.{OneResult, one-outcome}
+use Rattle.collector.specs.declared.Collector.{Collector}
+use Rattle.collector.specs.Collecting.{PutIn}
+use Rattle.collector.proofs.Collector.new.Reads as collector-new
+use Rattle.collector.proofs.Collector.with.Reads as collector-with
+use Rattle.collector.proofs.Collector.with_all.Reads as collector-with-all
+use Rattle.collector.proofs.is_damaged.Reads as is-damaged
+use Rattle.collector.proofs.one_more.Reads as one-more
+
+collector-new-one : OneResult collector-new.Post
+collector-new-one κs a r r′ s s′ = one-outcome
+
+collector-with-one : OneResult collector-with.Post
+collector-with-one κs a r r′ s s′ = one-outcome
+
+-- the check makes no reading of a contract over a struct that is lent: of `collect` the law is about the relation that its contract names
+collect-one : {before left left′ : Collector} {octet : ℕ} → PutIn before octet left → PutIn before octet left′ → left ≡ left′
+collect-one p p′ = one-outcome (p .leaves) (p′ .leaves)
+
+collector-with-all-one : OneResult collector-with-all.Post
+collector-with-all-one κs a r r′ s s′ = one-outcome
+
+is-damaged-one : OneResult is-damaged.Post
+is-damaged-one κs a r r′ s s′ = one-outcome
+
+one-more-one : OneResult one-more.Post
+one-more-one κs a r r′ s s′ = one-outcome

@@ -1,0 +1,3 @@
+pub mod Collecting
+mod Determined
+mod RuledOut

@@ -1,0 +1,5 @@
+pub mod Messages
+pub mod Written
+pub mod Portions
+mod Determined
+mod RuledOut

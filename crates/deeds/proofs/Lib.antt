@@ -1,0 +1,3 @@
+pub mod Deeds
+mod Determined
+mod RuledOut

@@ -1,6 +1,0 @@
-pub mod Collecting
-pub mod Hearing
-pub mod Examining
-pub mod Damage
-mod Determined
-mod RuledOut

@@ -1,5 +1,0 @@
-pub mod Replies
-pub mod Written
-pub mod Giving
-mod Determined
-mod RuledOut

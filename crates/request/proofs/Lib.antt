@@ -1,5 +1,0 @@
-pub mod Searching
-pub mod ByType
-pub mod Decided
-mod Determined
-mod RuledOut

@@ -1,3 +1,0 @@
-pub mod Rules
-pub mod Decide
-pub mod ByType

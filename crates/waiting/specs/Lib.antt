@@ -1,0 +1,2 @@
+pub mod NextReply
+pub mod Collected
