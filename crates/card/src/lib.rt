@@ -9,7 +9,7 @@ ghost use Rattle.frame.specs.Writing.{replyOctets};
 ghost use Rattle.fields.specs.Answers.{identityFound};
 ghost use Rattle.card.specs.State.{cardAtPowerOn, collecting, withOctet, withOctets, leftWith, damagedBy};
 ghost use Rattle.card.specs.Examining.{noFrame, isLink, heard, examinedFrame, examinedVerdict, examined};
-ghost use Rattle.card.specs.Gap.{refusal, repliedBy, afterAnswer, afterExamining, gapped, goneBy, Gapped};
+ghost use Rattle.card.specs.Gap.{refusal, afterAnswer, afterExamining, gapped, goneBy, Gapped};
 use address::LinkAddress;
 use collector::Collector;
 use deeds::Order;
@@ -256,37 +256,31 @@ fn after_examining(
     }
 }
 
+// The two replies are written here and not by one function, which would be handed all of the answer by value.
 fn after_answer(card: Card, answered: Answered, buffer: &mut [u8]) -> Gone
     requires { ⌜ 261 ≤ length (now buffer) ⌝ }
     ensures { λ r. ⌜ Gapped (afterAnswer card answered) (now (buffer .entry)) r (now (buffer .exit)) ⌝ }
 {
     let sends = answered.sends;
-    let link = answered.link;
-    match sends {
-        Sends::NotReset => refused(7, card.left_with(link)),
-        Sends::Remembered => replied(card, answered, link.remembered, buffer),
-        Sends::Status(address) => replied(
-            card,
-            answered,
-            Reply::plain(Control::Status, address),
-            buffer,
-        ),
-    }
-}
-
-fn replied(card: Card, answered: Answered, reply: Reply, buffer: &mut [u8]) -> Gone
-    requires { ⌜ 261 ≤ length (now buffer) ⌝ }
-    ensures { λ r. ⌜ Gapped (repliedBy card answered reply) (now (buffer .entry)) r (now (buffer .exit)) ⌝ }
-{
     let order = answered.order;
     let time = answered.time;
     let link = answered.link;
-    Gone {
-        number: 0,
-        length: written(buffer, reply),
-        order,
-        time,
-        card: card.left_with(link),
+    match sends {
+        Sends::NotReset => refused(7, card.left_with(link)),
+        Sends::Remembered => Gone {
+            number: 0,
+            length: written(buffer, link.remembered),
+            order,
+            time,
+            card: card.left_with(link),
+        },
+        Sends::Status(address) => Gone {
+            number: 0,
+            length: written(buffer, Reply::plain(Control::Status, address)),
+            order,
+            time,
+            card: card.left_with(link),
+        },
     }
 }
 

@@ -13,6 +13,9 @@ use Rattle.input.proofs.judge_run.Reads as judge-run
 use Rattle.input.proofs.call_size.Reads as call-size
 use Rattle.input.proofs.judge_call.Reads as judge-call
 
+image-in-one : OneReading (λ κs r. now r) image-in.Post
+image-in-one κs a r r′ s s′ = one-outcome
+
 length-of-2-one : OneResult length-of-2.Post
 length-of-2-one κs a r r′ s s′ = one-outcome
 
@@ -21,9 +24,6 @@ clock-at-one κs a r r′ s s′ = one-outcome
 
 head-size-one : OneResult head-size.Post
 head-size-one κs a r r′ s s′ = one-outcome
-
-image-in-one : OneReading (λ κs r. now r) image-in.Post
-image-in-one κs a r r′ s s′ = one-outcome
 
 clock-in-one : OneResult clock-in.Post
 clock-in-one κs a r r′ s s′ = one-outcome

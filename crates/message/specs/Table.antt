@@ -12,7 +12,7 @@ use Rattle.message.specs.declared.Row.{Row}
 use Rattle.message.specs.declared.RowFound.{RowFound}
 use Rattle.message.specs.declared.RowFound.the-variants.{Is, Nothing}
 
--- `Events` are the record addresses that events of an image have
+-- `Events`: 52 to 55, 128, 129, the record addresses that events of an image have (`image/specs/Image`, `eventRecord`). `GivesData` is mirror 7, the data, mirror 10
 abbrev pub row : ℕ → ℕ → ℕ → ℕ → Addresses → Deed → Row
 row type count octets cause addresses deed =
     record { «type_id» = type; count = count; octets = octets; cause = cause; addresses = addresses; deed = deed }

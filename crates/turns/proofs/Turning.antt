@@ -81,17 +81,26 @@ module _ (under : List ℕ) (before : Card) (number : ℕ) (gone : Gone) (buffer
   unfolding goneTurn
   line-lined = rw e at l
 
-  pub line-turned : (count ≡ 0 → ⊥) → Turned under before (goneTurn number gone buffer) (record { count = count; card = gone .card; more = true }) left
+  line-turned : (count ≡ 0 → ⊥) → Turned under before (goneTurn number gone buffer) (record { count = count; card = gone .card; more = true }) left
   unfolding goneTurn
   line-turned n = written-turned under before (goneTurn number gone buffer) (line-some number gone buffer) (line-most number gone buffer few) line-lined n
 
-  pub line-refused : count ≡ 0 → Turned under before (goneTurn number gone buffer) (record { count = 0; card = before; more = false }) left
+  line-refused : count ≡ 0 → Turned under before (goneTurn number gone buffer) (record { count = 0; card = before; more = false }) left
   line-refused n = refused-turned under before (goneTurn number gone buffer) (line-some number gone buffer) (line-most number gone buffer few) line-lined n
 
 -- the reply stands in the first octets of the buffer
-pub gone-turn : (number : ℕ) (o : Outcome) (buffer : List ℕ) {left : List ℕ} {gone : Gone} → Gapped o buffer gone left → goneTurn number gone left ≡ lineTurn number o
+gone-turn : (number : ℕ) (o : Outcome) (buffer : List ℕ) {left : List ℕ} {gone : Gone} → Gapped o buffer gone left → goneTurn number gone left ≡ lineTurn number o
 unfolding goneTurn lineTurn goneBy
 gone-turn number o buffer g = rw (g .answers, g .left-so, take-append-seam (o .reply) (drop (length (o .reply)) buffer))
+
+-- so of the line of a gap: that it does not fit, and that it does
+module _ (under : List ℕ) (before : Card) (number : ℕ) (o : Outcome) (buffer : List ℕ) {left out : List ℕ} {gone : Gone} {count : ℕ} (g : Gapped o buffer gone left)
+    (few : length left ≤ 261) (l : Lined under (lineOf number (gone .number) (gone .order) (take (gone .length) left)) count out) where
+  pub gap-refused : count ≡ 0 → Turned under before (lineTurn number o) (record { count = 0; card = before; more = false }) out
+  gap-refused n = rw (gone-turn number o buffer g) at (line-refused under before number gone left few refl l n)
+
+  pub gap-turned : (count ≡ 0 → ⊥) → Turned under before (lineTurn number o) (record { count = count; card = gone .card; more = true }) out
+  gap-turned n = rw (gone-turn number o buffer g) at (line-turned under before number gone left few refl l n)
 
 -- the head by what it is found to be
 pub head-turned : (under read text : List ℕ) (h : Head) (more : Bool) {left : List ℕ} {r : Left} {found : Head} {card : Card} → card ≡ cardAtPowerOn

@@ -1,12 +1,13 @@
 // The turns of the printing program: the head, then run after run. Each writes its text into a lent buffer, so that the program only reads,
 // steps and writes.
 ghost use Prim.Native.Nat.{_≤_};
-ghost use lib.ListN.{length};
+ghost use lib.ListN.{length, take};
+ghost use Rattle.printing.specs.Line.{lineOf, Lined};
 ghost use Rattle.card.specs.State.{cardAtPowerOn};
 ghost use Rattle.turns.specs.Printed.{lastTurn, headTurn, gapTurn, runTurn};
-ghost use Rattle.turns.specs.Turned.{Turned, goneTurn};
+ghost use Rattle.turns.specs.Turned.{Turned};
 use card::Card;
-use card::Gone;
+use deeds::Order;
 use input::Head;
 use input::Run;
 
@@ -47,30 +48,15 @@ pub fn start(out: &mut [u8], read: &[u8]) -> Left
     }
 }
 
-// The line of a gap, behind the card as it was before the run. No line is empty: one that has no octets did not fit and is refused.
-fn line(out: &mut [u8], before: Card, number: u64, gone: Gone, buffer: &[u8]) -> Left
-    requires { ⌜ length (now buffer) ≤ 261 ⌝ }
-    ensures { λ r. ⌜ Turned (now (out .entry)) before (goneTurn number gone (now (buffer .entry))) r (now (out .exit)) ⌝ }
+// The line of a gap: the reply stands in the first octets of its buffer.
+fn line(out: &mut [u8], number: u64, result: u8, order: Order, count: u16, buffer: &[u8]) -> usize
+    ensures { λ r. ⌜ Lined (now (out .entry)) (lineOf number result order (take count (now (buffer .entry)))) r (now (out .exit)) ⌝ }
 {
-    let order = gone.order;
-    let card = gone.card;
-    let reply = octets::part(buffer, 0, gone.length as usize);
-    let count = printing::line(out, number, gone.number, order, reply);
-    if count == 0 {
-        return Left {
-            count: 0,
-            card: before,
-            more: false,
-        };
-    }
-    Left {
-        count,
-        card,
-        more: true,
-    }
+    let reply = octets::part(buffer, 0, count as usize);
+    printing::line(out, number, result, order, reply)
 }
 
-// A gap and its line.
+// A gap and its line, behind the card as it was before the run. No line is empty: one that has no octets did not fit and is refused.
 fn answer(
     out: &mut [u8],
     before: Card,
@@ -83,7 +69,21 @@ fn answer(
 {
     let mut buffer = [0u8; 261];
     let gone = card.gap(image, clock, &mut buffer);
-    line(out, before, number, gone, &buffer)
+    let order = gone.order;
+    let after = gone.card;
+    let count = line(out, number, gone.number, order, gone.length, &buffer);
+    if count == 0 {
+        return Left {
+            count: 0,
+            card: before,
+            more: false,
+        };
+    }
+    Left {
+        count,
+        card: after,
+        more: true,
+    }
 }
 
 // A run with its length, as it was read: its text, and the card after it. A text that does not fit is refused: the card is as it was before

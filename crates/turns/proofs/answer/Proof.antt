@@ -1,8 +1,8 @@
 -- `answer` writes the line of a gap that is lent 261 octets.
--- By what the gap returns and leaves. Assumes nothing.
-use borrow.Author.Needs.{needs}
+-- By what the gap returns and leaves; a count of 0 says that the line does not fit. Assumes nothing.
 use Rattle.turns.specs.Printed.{gapTurn}
-use Rattle.turns.proofs.Turning.{gone-turn}
+use Rattle.turns.proofs.Turning.{gap-refused, gap-turned}
+use borrow.Author.Needs.{needs}
 use Rattle.turns.proofs.answer.Statement.{statement}
 use Rattle.turns.proofs.answer.Tie as tie
 
@@ -23,7 +23,14 @@ same-length c = search needs
 
 returns : tie.Need-returns
 unfolding gapTurn
-returns c = rw (gone-turn _ _ _ (c .before .before .before .before .before .before .gap .ensures)) at (c .before .before .line .ensures)
+returns c = gap-refused _ _ _ _ _ (c .before .before .before .before .before .before .before .before .gap .ensures) (search needs) (c .before .before .before .line .ensures) (c .if1 .taken)
+
+same-length-2 : tie.Need-same-length-2
+same-length-2 c = search needs
+
+returns-2 : tie.Need-returns-2
+unfolding gapTurn
+returns-2 c = gap-turned _ _ _ _ _ (c .before .before .before .before .before .before .before .before .gap .ensures) (search needs) (c .before .before .before .line .ensures) (c .if1 .left)
 
 pub answer-spec : {M : Type 1} → statement M
 answer-spec =
@@ -34,4 +41,6 @@ answer-spec =
     slice-aggregate-line
     line-requires
     same-length
-    returns)
+    returns
+    same-length-2
+    returns-2)
