@@ -3,7 +3,8 @@
 
 - docs/CONTRACTS.md: the column "Ruled out". A theorem of crates/CRATE/proofs/RuledOut.antt is listed by the comment above it, beside
   the call whose contract it is about; an edit of crates/CRATE/must-fail by its first line, in italics, beside the call that it names.
-- docs/READING.md: the lines of the files in its table, and the figures that stand between `<!--NAME-->` and `<!---->`.
+- docs/READING.md: the lines of the files in its tables, and the figures that stand between `<!--NAME-->` and `<!---->`. A file of the table
+  of what has to be believed uses no other definitions than those of that table; nor do the contracts of the card.
 - docs/SLIPS.md is written by slips.py; here it is seen that nothing that its rows rest on has changed since.
 
 It is an error if a public call has no row, a row no call, a call with a contract fewer than two wrong answers, an edit a call that
@@ -20,6 +21,7 @@ from slips import TABLE as SLIPS, rests_on
 CRATES, CONTRACTS, READING = ROOT / "crates", ROOT / "docs" / "CONTRACTS.md", ROOT / "docs" / "READING.md"
 WORKED_OUT = ("fields/specs/working/Key", "image/specs/working/Keys", "choice/specs/working/Keys")
 PROGRAMS = ("input", "stream", "printing", "turns", "driving")
+BESIDES = "## What is said besides"
 
 
 class Call:
@@ -138,21 +140,39 @@ def lines_in(files):
     return sum(len(file.read_text(encoding="utf8").splitlines()) for file in files)
 
 
+def definitions_in(files):
+    """The lines of files without comments, imports and blank lines."""
+    lines = (line.strip() for file in files for line in file.read_text(encoding="utf8").splitlines())
+    return sum(1 for line in lines if line and not line.startswith(("--", "use ", "pub mod ")))
+
+
+def used_by(file):
+    """The files of definitions that a file imports names of."""
+    text = file.read_text(encoding="utf8")
+    return {f"{crate}/specs/{module}" for crate, module in re.findall(r"^(?:ghost )?use Rattle·(\w+)(?:·specs)?\.specs\.(?!declared\.)(\w+)", text, re.M)}
+
+
+def see_closed(believed, specs, errors):
+    """What has to be believed stands in files that use no others, and the card's contracts speak of these alone."""
+    for file in [specs[name] for name in believed] + sorted((CRATES / "card" / "src").glob("*.rt")):
+        for name in sorted(used_by(file) - set(believed)):
+            errors.append(f"docs/READING.md: {file.relative_to(ROOT)} uses {name}, which is not among what has to be believed")
+
+
 def reading(text, every, errors):
     """docs/READING.md with its figures written anew."""
     specs = {str(file.relative_to(CRATES).with_suffix("")): file for file in sorted(CRATES.glob("*/specs/**/*.antt"))
              if file.stem not in ("Lib", "working")}
-    listed = []
-
     def row(found):
         name = found.group(1)
         if name not in specs:
             errors.append(f"docs/READING.md: no file {name}")
             return found.group(0)
-        listed.append(specs[name])
         return f"| `{name}` | {lines_in([specs[name]])} |"
 
     text = re.sub(r"^\| `(\w+/specs/[\w/]+)` \| [\d,]+ \|", row, text, flags=re.M)
+    believed = [name for name in re.findall(r"^\| `(\w+/specs/[\w/]+)` \|", text.partition(BESIDES)[0], flags=re.M) if name in specs]
+    see_closed(believed, specs, errors)
     for name in specs:
         if name not in text and name.rpartition("/")[0] + "`" not in text:
             errors.append(f"docs/READING.md: {name} is named nowhere")
@@ -161,7 +181,8 @@ def reading(text, every, errors):
         "specs": lines_in(CRATES.glob("*/specs/**/*.antt")),
         "src": lines_in(CRATES.glob("*/src/*.rt")),
         "proofs": lines_in(CRATES.glob("*/proofs/**/*.antt")),
-        "listed": lines_in(listed),
+        "listed": lines_in(specs[name] for name in believed),
+        "believed": definitions_in(specs[name] for name in believed),
         "worked": lines_in(specs[name] for name in WORKED_OUT),
         "programs": lines_in(file for name, file in specs.items() if name.startswith(PROGRAMS)),
         "theorems": sum(len(call.theorems) for call in calls),

@@ -1,4 +1,4 @@
--- What a run is to this card, of a collector: by whether it is overfull; and from the empty collector on the run alone matters.
+-- What a run is to this card, of a collector: by whether it is overfull; from the empty collector on the run alone matters; and what was heard.
 -- By the tests of the definition. Assumes nothing.
 use Prim.Native.Nat.{ℕ, _≤_, _<_}
 use mathlib.Core.List.{List}
@@ -6,12 +6,16 @@ use mathlib.Core.Path.{_≡_, ap}
 use borrow.Author.Tests.{lt-ltb, le-ltb}
 use lib.ListN.{take, drop}
 use Rattle.frame.specs.declared.Fault.the-variants.{Long}
+use Rattle.frame.specs.declared.Service.{Service}
 use Rattle.frame.specs.Family.{sapr}
 use Rattle.frame.specs.Frame.{judge}
 use Rattle.collector.specs.declared.Collector.{Collector}
-use Rattle.collector.specs.Collecting.{emptied, isOverfull, runOf, collectedAll, verdictOf}
+use Rattle.collector.specs.Collecting.{emptied, isOverfull, runOf, verdictOf}
+use Rattle.collector.specs.Calls.{collectedAll}
 use Rattle.collector.proofs.Collecting.{collected-verdict}
-use Rattle.card.specs.declared.Finding.the-variants.{Faulty}
+use Rattle.card.specs.declared.Examined.{Examined}
+use Rattle.card.specs.declared.Finding.{Finding}
+use Rattle.card.specs.declared.Finding.the-variants.{Faulty, Asks}
 use Rattle.card.specs.Examining.{noFrame, examinedVerdict, examined}
 
 module _ (image : List ℕ) (c : Collector) where
@@ -27,3 +31,7 @@ module _ (image : List ℕ) (c : Collector) where
 pub run-only : (run image : List ℕ) → examined (collectedAll emptied run) image ≡ examinedVerdict image (judge sapr run)
 unfolding examined
 run-only run image = ap (examinedVerdict image) (collected-verdict sapr run)
+
+-- a finding with its user octets is what was heard
+pub as-heard : (x : Examined) {service : Service} → x .finding ≡ Asks service → x ≡ record { finding = Asks service; user = x .user }
+as-heard x e = ap (λ (f : Finding). record { finding = f; user = x .user }) e

@@ -16,7 +16,7 @@ use Rattle.frame.specs.declared.Control.the-variants as control
 use Rattle.frame.specs.declared.Fault.{Fault}
 use Rattle.frame.specs.declared.Reply.{Reply}
 use Rattle.frame.specs.declared.Service.{Service}
-use Rattle.frame.specs.Judging.{faultNumber}
+use Rattle.frame.specs.Frame.{faultNumber}
 use Rattle.frame.specs.Writing.{plain, replyOctets}
 use Rattle.image.specs.Image.{soundImage}
 use Rattle.link.specs.declared.Link.{Link}

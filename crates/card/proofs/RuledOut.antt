@@ -17,8 +17,7 @@ use Rattle.frame.specs.declared.Fault.{Fault}
 use Rattle.frame.specs.declared.Fault.the-variants.{Empty, Long, Malformed, Spoiled}
 use Rattle.frame.specs.declared.Service.{Service}
 use Rattle.frame.specs.Family.{sapr}
-use Rattle.frame.specs.Frame.{refused, judge}
-use Rattle.frame.specs.Judging.{faultNumber}
+use Rattle.frame.specs.Frame.{refused, judge, faultNumber}
 use Rattle.frame.specs.Writing.{replyOctets}
 use Rattle.collector.specs.declared.Collector.{Collector}
 use Rattle.collector.specs.Collecting.{emptied, isOverfull, collected, runOf, verdictOf}

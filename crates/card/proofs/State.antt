@@ -3,7 +3,7 @@
 use Prim.Native.Nat.{ℕ}
 use mathlib.Core.List.{List, [], _∷_}
 use mathlib.Core.Path.{_≡_, refl}
-use Rattle.collector.specs.Collecting.{collectedAll}
+use Rattle.collector.specs.Calls.{collectedAll}
 use Rattle.card.specs.declared.Card.{Card}
 use Rattle.card.specs.State.{collecting, withOctet, withOctets}
 

@@ -10,7 +10,7 @@ use Rattle.octets.specs.Over.{laidIn, Does}
 use Rattle.octets.specs.declared.Kept.{Kept}
 use Rattle.frame.specs.declared.Control.the-variants as control
 use Rattle.frame.specs.declared.Reply.{Reply}
-use Rattle.frame.specs.Judging.{faultNumber}
+use Rattle.frame.specs.Frame.{faultNumber}
 use Rattle.frame.specs.Writing.{plain, replyOctets}
 use Rattle.image.specs.Image.{soundImage}
 use Rattle.deeds.specs.declared.Order.{Order}

@@ -22,7 +22,8 @@ use Rattle.choice.specs.declared.Span.{Span}
 use Rattle.choice.specs.declared.Query.{Query}
 use Rattle.choice.specs.declared.Query.the-variants.{Reading, Event}
 use Rattle.choice.specs.declared.Found.the-variants.{At, Nothing}
-use Rattle.choice.specs.Choice.{inSpan, chosen, choice, placesFrom, nthPlace}
+use Rattle.choice.specs.Choice.{inSpan, chosen, choice}
+use Rattle.choice.specs.Calls.{placesFrom, nthPlace}
 use Rattle.choice.specs.working.Keys.{keyInSpan, keyChosen}
 
 -- a kind first, and then what records of it have

@@ -16,13 +16,15 @@ use Rattle.records.proofs.Records.{stands-facts, kind-there, after-whole}
 use Rattle.records.proofs.Said.{keep-within}
 use Rattle.records.proofs.Places.{Lie, lie, none, one, lie-is, Hit, nth-hit, as-many-places}
 use Rattle.fields.specs.Parts.{pointOf, isKind}
-use Rattle.fields.specs.Answers.{recordsOf, valueFound, eventFound}
+use Rattle.fields.specs.Answers.{recordsOf}
+use Rattle.fields.specs.Calls.{valueFound, eventFound}
 use Rattle.fields.proofs.Answers.{value-same, event-same}
 use Rattle.choice.specs.declared.Span.{Span}
 use Rattle.choice.specs.declared.Query.{Query}
 use Rattle.choice.specs.declared.Query.the-variants.{Reading, Event}
 use Rattle.choice.specs.declared.Found.the-variants.{At, Nothing}
-use Rattle.choice.specs.Choice.{inSpan, chosen, choice, readingsOf, placesFrom, nthPlace}
+use Rattle.choice.specs.Choice.{inSpan, chosen, choice, readingsOf}
+use Rattle.choice.specs.Calls.{placesFrom, nthPlace}
 
 -- the n-th of a list, or that it has no more
 at-nth : (n : ℕ) (ps : List ℕ) (p : ℕ) → nthPlace n ps ≡ At p → (n < length ps) × (getD ps n 0 ≡ p)

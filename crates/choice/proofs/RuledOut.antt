@@ -22,7 +22,8 @@ use Rattle.fields.specs.Answers.{recordsOf}
 use Rattle.choice.specs.declared.Query.{Query}
 use Rattle.choice.specs.declared.Query.the-variants.{Reading, Event}
 use Rattle.choice.specs.declared.Found.the-variants.{At, Nothing}
-use Rattle.choice.specs.Choice.{inSpan, chosen, placesFrom, nthPlace}
+use Rattle.choice.specs.Choice.{inSpan, chosen}
+use Rattle.choice.specs.Calls.{placesFrom, nthPlace}
 use Rattle.choice.proofs.find.Reads as find
 use Rattle.choice.proofs.next.Reads as next
 

@@ -1,21 +1,18 @@
 -- What is chosen from an image. Document 01: "Chosen are records of that point and record address with first <= label <= last, in image
 -- order"; an event is compared by its minute. Assumes nothing.
-use Prim.Native.Nat.{ℕ, zero, suc}
+use Prim.Native.Nat.{ℕ}
 use mathlib.Core.Bool.{Bool, _&&_}
-use mathlib.Core.List.{List, [], _∷_}
+use mathlib.Core.List.{List}
 use lib.Dec.{eqb}
 use lib.Signed.{leZ}
 use lib.IntN.{ℤ}
 use Rattle.label.specs.Label.{instant}
-use Rattle.records.specs.Records.{recordsFrom}
-use Rattle.records.specs.Said.{keep, placesOf}
+use Rattle.records.specs.Said.{keep}
 use Rattle.fields.specs.Parts.{pointOf, recordAddress, readingLabel, eventLabel, isKind}
 use Rattle.fields.specs.Answers.{recordsOf}
 use Rattle.choice.specs.declared.Span.{Span}
 use Rattle.choice.specs.declared.Query.{Query}
 use Rattle.choice.specs.declared.Query.the-variants.{Reading, Event}
-use Rattle.choice.specs.declared.Found.{Found}
-use Rattle.choice.specs.declared.Found.the-variants.{At, Nothing}
 
 -- a record of the span's point and record address, with an instant from first to last, both in
 unfoldable pub inSpan : Span → List ℕ → ℤ → Bool
@@ -33,13 +30,3 @@ choice query image = keep (chosen query) (recordsOf image)
 -- all readings of an image
 unfoldable pub readingsOf : List ℕ → List (List ℕ)
 readingsOf image = keep (isKind 4) (recordsOf image)
-
--- the places of the chosen among the records from a place on; all of them from place 1 on
-unfoldable pub placesFrom : Query → List ℕ → ℕ → List ℕ
-placesFrom query image at = placesOf (chosen query) at (recordsFrom image at)
-
--- the n-th place, counted from 0
-unfoldable pub nthPlace : ℕ → List ℕ → Found
-nthPlace n [] = Nothing
-nthPlace zero (p ∷ ps) = At p
-nthPlace (suc n) (p ∷ ps) = nthPlace n ps

@@ -4,7 +4,7 @@ ghost use mathlib.Core.Bool.{_&&_};
 ghost use lib.Dec.{eqb};
 ghost use lib.Signed.{leZ};
 ghost use Rattle.fields.specs.working.Key.{keyAt};
-ghost use Rattle.choice.specs.Choice.{placesFrom, nthPlace};
+ghost use Rattle.choice.specs.Calls.{placesFrom, nthPlace};
 ghost use Rattle.choice.specs.working.Keys.{keyInSpan, keyChosen};
 use address::PointAddress;
 use fields::Key;

@@ -15,7 +15,8 @@ use Rattle.frame.specs.Family.{Family}
 use Rattle.frame.specs.Frame.{judge}
 use Rattle.frame.proofs.Frame.{judge-long}
 use Rattle.collector.specs.declared.Collector.{Collector}
-use Rattle.collector.specs.Collecting.{emptied, overfull, isOverfull, collected, runOf, collectedAll, verdictOf}
+use Rattle.collector.specs.Collecting.{emptied, overfull, isOverfull, collected, runOf, verdictOf}
+use Rattle.collector.specs.Calls.{collectedAll}
 
 -- the collector that holds a run and nothing else
 abbrev pub holding : List ℕ → Collector

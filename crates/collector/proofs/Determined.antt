@@ -4,7 +4,7 @@ use Prim.Native.Nat.{ℕ}
 use mathlib.Core.Path.{_≡_}
 use Rattle.octets.proofs.Outcome.{OneResult, one-outcome}
 use Rattle.collector.specs.declared.Collector.{Collector}
-use Rattle.collector.specs.Collecting.{PutIn}
+use Rattle.collector.specs.Calls.{PutIn}
 use Rattle.collector.proofs.Collector.new.Reads as collector-new
 use Rattle.collector.proofs.Collector.with.Reads as collector-with
 use Rattle.collector.proofs.Collector.with_all.Reads as collector-with-all

@@ -12,7 +12,8 @@ use borrow.Author.Tests.{lt-ltb, le-ltb}
 use Rattle.octets.proofs.Outcome.{RuledOut, Place, lent, never}
 use Rattle.frame.specs.declared.Fault.the-variants.{Empty, Malformed}
 use Rattle.collector.specs.declared.Collector.{Collector}
-use Rattle.collector.specs.Collecting.{emptied, overfull, collected, collectedAll}
+use Rattle.collector.specs.Collecting.{emptied, overfull, collected}
+use Rattle.collector.specs.Calls.{collectedAll}
 use Rattle.collector.specs.Damage.{oneMore}
 use Rattle.collector.proofs.Collecting.{collected-stores, collected-over}
 use Rattle.collector.proofs.Collector.new.Reads as collector-new

@@ -2,8 +2,7 @@
 -- Assumes nothing.
 use Prim.Native.Nat.{ℕ, _+_}
 use mathlib.Core.Bool.{Bool}
-use mathlib.Core.List.{List, [], _∷_}
-use mathlib.Core.Path.{_≡_}
+use mathlib.Core.List.{List}
 use lib.Dec.{ltb}
 use lib.ListN.{take, set, replicate}
 use Rattle.octets.specs.Choice.{if_then_else_}
@@ -28,18 +27,9 @@ collected c octet =
     if ltb (c .length) 261 then record { octets = set (c .octets) (c .length) octet; length = c .length + 1 } else
     overfull
 
--- `PutIn before octet left`: what putting an octet into a collector that is lent leaves
-pub record PutIn (before : Collector) (octet : ℕ) (left : Collector) : Type 0 where
-  pub leaves : left ≡ collected before octet
-
 -- the octets since the last gap, of a collector that is not overfull
 unfoldable pub runOf : Collector → List ℕ
 runOf c = take (c .length) (c .octets)
-
--- octet after octet
-unfoldable pub collectedAll : Collector → List ℕ → Collector
-collectedAll c [] = c
-collectedAll c (x ∷ xs) = collectedAll (collected c x) xs
 
 -- what the run in a collector is, in a family of frames
 unfoldable pub verdictOf : Family → Collector → Verdict

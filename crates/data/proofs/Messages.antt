@@ -1,21 +1,22 @@
 -- The data messages octet by octet: how long each is, and what stands where in those of readings and of events.
 -- By recursion on the objects and on the events, each of one width. Assumes nothing.
 use Prim.Native.Nat.{ℕ, zero, suc, _+_, _-_, _*_, _^_, _≤_, _<_}
-use mathlib.Core.List.{List, [], _∷_, _++_, reverse, reverseAux, append-assoc}
+use mathlib.Core.List.{List, [], _∷_, _++_, append-assoc}
 use mathlib.Core.Path.{_≡_, refl, ap, _∙_}
-use native.Mathlib.Nat.{mul-suc, pow-le-pow-right}
+use native.Mathlib.Nat.{mul-suc}
 use native.Mathlib.Omega.{arith}
-use lib.ListN.{length, getD, take, drop, length-append, length-take, length-reverse}
+use lib.ListN.{length, getD, take, drop, length-append}
 use lib.Seq.{take-at, drop-at, drop-append-add}
-use Rattle.octets.specs.Numbers.{lowFirst, highFirst, lowOctets}
+use Rattle.octets.specs.Numbers.{lowFirst, lowOctets}
 use Rattle.octets.specs.Values.{signed, unsigned}
-use Rattle.octets.proofs.Numbers.{Octets, octets-take, octets-drop, low-length, low-number, low-bound}
+use Rattle.octets.proofs.Numbers.{Octets, low-length, low-number}
 use Rattle.octets.proofs.Values.{unsigned-signed}
 use Rattle.address.specs.declared.PointAddress.{PointAddress}
 use Rattle.label.specs.declared.LabelA.{LabelA}
 use Rattle.fields.specs.declared.Identity.{Identity}
 use Rattle.fields.specs.declared.Dates.{Dates}
 use Rattle.fields.specs.Parts.{numberAt, readingLabel, valueOf, qualityOf}
+use Rattle.fields.proofs.Parts.{number-small}
 use Rattle.message.specs.Headers.{headerOctets}
 use Rattle.label.specs.Label.{labelAOctets, labelBOctets}
 use Rattle.data.specs.Messages.{replyHeader, identityReply, clockReply, datesReply, objectOctets, objectsOctets, readingReply, eventOctets, eventsOctets, eventsReply}
@@ -100,23 +101,7 @@ module _ (type : ℕ) (point : PointAddress) (address : ℕ) (r : List ℕ) wher
       behind-header type 6 point address _ 36
       ∙ drop-at (objectsOctets 1 6 r) (labelAOctets (readingLabel r)) 36 (objects-length 1 6 r)
 
--- a number of a record's octets has its width
-octets-reverse : (octets back : List ℕ) → Octets octets → Octets back → Octets (reverseAux octets back)
-octets-reverse [] back o b = b
-octets-reverse (octet ∷ rest) back o b = octets-reverse rest (octet ∷ back) (λ i. o (suc i)) more
-  where
-    more : Octets (octet ∷ back)
-    more zero = o 0
-    more (suc i) = b i
-
-pub number-small : (width k : ℕ) (r : List ℕ) → Octets r → numberAt width r k < 256 ^ width
-unfolding numberAt highFirst
-number-small width k r o =
-    let part = take width (drop k r) in
-    let size : length (reverse part) ≤ width = rw length-reverse (omega (arith, length-take width (drop k r))) in
-    omega (arith, pow-le-pow-right {n = 256} (omega arith) size, low-bound (reverse part) (octets-reverse part [] (octets-take width (drop k r) (octets-drop k r o)) (λ i. omega arith)))
-
--- so the bits of an object's value, and its value from them
+-- the bits of an object's value, and its value from them
 value-bits : (n : ℕ) (r : List ℕ) → Octets r → (unsigned (valueOf n r) < 256 ^ 4) × (signed (unsigned (valueOf n r)) ≡ valueOf n r)
 unfolding valueOf
 value-bits n r o =

@@ -19,11 +19,13 @@ use Rattle.choice.specs.declared.Query.{Query}
 use Rattle.choice.specs.declared.Query.the-variants.{Reading, Event}
 use Rattle.choice.specs.declared.Found.{Found}
 use Rattle.choice.specs.declared.Found.the-variants.{At, Nothing}
-use Rattle.choice.specs.Choice.{chosen, choice, placesFrom, nthPlace}
+use Rattle.choice.specs.Choice.{chosen, choice}
+use Rattle.choice.specs.Calls.{placesFrom, nthPlace}
 use Rattle.choice.proofs.Chosen.{number-all}
 use Rattle.choice.proofs.Laws.{nothing-nth, found-there, goes-on}
 use Rattle.octets.specs.declared.Kept.{Kept}
-use Rattle.octets.specs.Keeping.{octetsOf, keptOf, added}
+use Rattle.octets.specs.Keeping.{octetsOf, keptOf}
+use Rattle.octets.specs.Calls.{added}
 use Rattle.octets.proofs.Keeping.{octets-back}
 use Rattle.data.specs.declared.Portion.{Portion}
 use Rattle.data.specs.Messages.{replyHeader, readingReply, eventOctets, eventsOctets, eventsReply}

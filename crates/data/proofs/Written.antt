@@ -20,10 +20,11 @@ use Rattle.fields.specs.declared.EventFound.{EventFound}
 use Rattle.fields.specs.declared.EventFound.the-variants as event
 use Rattle.fields.specs.Parts.{readingLabel, valueOf, qualityOf, spaOf, spqOf, eventLabel}
 use Rattle.fields.specs.working.Key.{keyAt}
-use Rattle.fields.specs.Answers.{valueFound, eventFound}
+use Rattle.fields.specs.Calls.{valueFound, eventFound}
 use Rattle.fields.proofs.Parts.{key-4, key-whole}
 use Rattle.octets.specs.declared.Kept.{Kept}
-use Rattle.octets.specs.Keeping.{keptOf, added}
+use Rattle.octets.specs.Keeping.{keptOf}
+use Rattle.octets.specs.Calls.{added}
 use Rattle.octets.proofs.Keeping.{added-more}
 use Rattle.label.specs.Label.{labelAOctets, labelBOctets}
 use Rattle.data.specs.Messages.{replyHeader, objectOctets, objectsOctets, eventOctets}

@@ -1,7 +1,7 @@
--- The number of an order's time octets determines it; of an accepted message they are the octets behind its header; which message does what; and what a
--- refusal leaves. By the orders, by the labels written again, row by row, and by what a rule does. Assumes nothing.
+-- The time octets of an order are those behind the header of its message; which message does what; and what a refusal leaves.
+-- By the labels written again, row by row, and by what a rule does. Assumes nothing.
 use Prim.Native.Nat.{ℕ, _+_, _≤_}
-use mathlib.Core.Bool.{true, not, _||_}
+use mathlib.Core.Bool.{Bool, true, not, _||_}
 use mathlib.Core.List.{List, _++_}
 use mathlib.Core.Path.{_≡_, refl, sym, ap, _∙_}
 use native.Mathlib.Omega.{arith}
@@ -28,11 +28,12 @@ use Rattle.rules.specs.declared.Rule.the-variants.{WrongPassword, Accepted}
 use Rattle.rules.specs.declared.Session.{Session}
 use Rattle.rules.specs.Rules.{causeBy, deedBy}
 use Rattle.rules.specs.Decide.{decide}
-use Rattle.rules.proofs.Rules.{Ruled, accepts, shuts-out, refuses, ruled}
+use Rattle.rules.proofs.Rules.{Ruled, accepts, shuts-out, wrong-time, refuses, ruled}
 use Rattle.rules.proofs.Decided.{accepted-octets}
 use Rattle.deeds.specs.declared.Order.{Order}
 use Rattle.deeds.specs.declared.Order.the-variants.{NoOrder, SetClock, SetDates}
-use Rattle.deeds.specs.Deeds.{timeOctets, deedOf, mirrorBy, doneBy}
+use Rattle.deeds.specs.Deeds.{deedOf, mirrorBy, doneBy}
+use Rattle.deeds.specs.Calls.{timeOctets}
 
 -- the order with so many time octets
 by-octets : ℕ → Order
@@ -80,19 +81,20 @@ not-so late early e = omega (arith, late, early, ap which e)
 pub deed-accepted : (rule : Rule) (its deed : Deed) → 2 ≤ which deed → deedBy rule its ≡ deed → (rule ≡ Accepted) × (its ≡ deed)
 deed-accepted rule its deed late = of-ruled (ruled rule its)
   where
-    of-ruled : {rule : Rule} {done : Deed} → Ruled its rule done → done ≡ deed → (rule ≡ Accepted) × (its ≡ deed)
+    of-ruled : {rule : Rule} {said : ℕ × Bool × Deed} → Ruled its rule said → said .2 ≡ deed → (rule ≡ Accepted) × (its ≡ deed)
     of-ruled accepts e = (refl, e)
     of-ruled shuts-out e = absurd (not-so late (omega arith) e)
-    of-ruled refuses e = absurd (not-so late (omega arith) e)
+    of-ruled wrong-time e = absurd (not-so late (omega arith) e)
+    of-ruled (refuses small) e = absurd (not-so late (omega arith) e)
 
 -- what a row says, and what a message does by a rule
 abbrev saidBy : RowFound → Deed
 saidBy (row.Is w) = w .deed
 saidBy row.Nothing = Refused
 
-pub deed-ruled : (rule : Rule) (found : RowFound) → Ruled (saidBy found) rule (deedOf rule found)
-deed-ruled rule (row.Is w) = ruled rule (w .deed)
-deed-ruled rule row.Nothing = ruled rule Refused
+deed-said : (rule : Rule) (found : RowFound) → deedOf rule found ≡ deedBy rule (saidBy found)
+deed-said rule (row.Is w) = refl
+deed-said rule row.Nothing = refl
 
 -- such a deed is done by an accepted message of the type whose row says it
 pub deed-listed : (deed : Deed) (only : ℕ) → every (λ w. not (eqb (which (w .deed)) (which deed)) || eqb (w .«type_id») only) table ≡ true → 2 ≤ which deed
@@ -131,27 +133,32 @@ module _ (rule : Rule) (type : ℕ) where
       (λ w is late. of-ruled (w .deed) (λ e. omega (arith, leb-true 2 (which (w .deed)) late, ap which e)) (ruled rule (w .deed)))
       (of-ruled Refused (λ e. omega (arith, ap which e)) (ruled rule Refused))
     where
-      of-ruled : (its : Deed) → (its ≡ ShutOut → ⊥) → {rule : Rule} {deed : Deed} → Ruled its rule deed → deed ≡ ShutOut → rule ≡ WrongPassword
+      of-ruled : (its : Deed) → (its ≡ ShutOut → ⊥) → {rule : Rule} {said : ℕ × Bool × Deed} → Ruled its rule said → said .2 ≡ ShutOut → rule ≡ WrongPassword
       of-ruled its other accepts e = absurd (other e)
       of-ruled its other shuts-out e = refl
-      of-ruled its other refuses e = absurd (omega (arith, ap which e))
+      of-ruled its other wrong-time e = absurd (omega (arith, ap which e))
+      of-ruled its other (refuses small) e = absurd (omega (arith, ap which e))
 
 -- a refusal waits as the mirror of its rule
 pub refused-mirror : (rule : Rule) (session : Session) (clock : List ℕ) (r : Request) (found : RowFound) → (rule ≡ Accepted → ⊥)
     → doneBy rule session clock r (deedOf rule found) .waiting ≡ mirrorBy rule
-refused-mirror rule session clock r found other = of-ruled (deed-ruled rule found) other
+refused-mirror rule session clock r found other = rw (deed-said rule found) (of-ruled (ruled rule (saidBy found)) other)
   where
-    of-ruled : {its : Deed} {rule : Rule} {deed : Deed} → Ruled its rule deed → (rule ≡ Accepted → ⊥) → doneBy rule session clock r deed .waiting ≡ mirrorBy rule
+    of-ruled : {its : Deed} {rule : Rule} {said : ℕ × Bool × Deed} → Ruled its rule said → (rule ≡ Accepted → ⊥)
+        → doneBy rule session clock r (said .2) .waiting ≡ mirrorBy rule
     of-ruled accepts other = absurd (other refl)
     of-ruled shuts-out other = refl
-    of-ruled refuses other = refl
+    of-ruled wrong-time other = refl
+    of-ruled (refuses small) other = refl
 
 -- refused by another cause than 7 it leaves the session
 pub refused-session : (rule : Rule) (session : Session) (clock : List ℕ) (r : Request) (found : RowFound) → (causeBy rule ≡ 7 → ⊥)
     → doneBy rule session clock r (deedOf rule found) .session ≡ session
-refused-session rule session clock r found other = of-ruled (deed-ruled rule found) other
+refused-session rule session clock r found other = rw (deed-said rule found) (of-ruled (ruled rule (saidBy found)) other)
   where
-    of-ruled : {its : Deed} {rule : Rule} {deed : Deed} → Ruled its rule deed → (causeBy rule ≡ 7 → ⊥) → doneBy rule session clock r deed .session ≡ session
+    of-ruled : {its : Deed} {rule : Rule} {said : ℕ × Bool × Deed} → Ruled its rule said → (causeBy rule ≡ 7 → ⊥)
+        → doneBy rule session clock r (said .2) .session ≡ session
     of-ruled accepts other = absurd (other refl)
     of-ruled shuts-out other = absurd (other refl)
-    of-ruled refuses other = refl
+    of-ruled wrong-time other = refl
+    of-ruled (refuses small) other = refl

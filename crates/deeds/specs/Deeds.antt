@@ -4,7 +4,6 @@ use Prim.Native.Nat.{ℕ}
 use mathlib.Core.Bool.{Bool, true, false}
 use mathlib.Core.List.{List, [], _++_}
 use lib.ListN.{replicate}
-use Rattle.octets.specs.Answer.{Answer}
 use Rattle.octets.specs.Choice.{if_then_else_}
 use Rattle.octets.specs.declared.Kept.{Kept}
 use Rattle.octets.specs.Keeping.{octetsOf, keptOf}
@@ -92,12 +91,3 @@ isWaiting (More before) = true
 isWaiting Type71 = true
 isWaiting Type72 = true
 isWaiting Type131 = true
-
--- an order has no number on paper but that of its time octets, which tells the three apart
-abbrev pub timeOctets : Order → ℕ
-timeOctets NoOrder = 0
-timeOctets SetClock = 7
-timeOctets SetDates = 10
-
-abbrev pub orderSays : Order → Answer
-orderSays order = record { number = timeOctets order; values = [] }

@@ -1,6 +1,7 @@
 // The driving program: calls of a card from standard input, a line for each gap. second/README.md, "The driving face". It only reads
-// (`stream`), steps (`driving`) and writes (`stream::say`).
+// (`stream`), steps (`driving`) and writes (`stream`), each line at once.
 use driving::Held;
+use stream::Texts;
 use stream::Window;
 
 // What is kept between two calls beside the image's space and the reply buffer: what is held, how many octets of the image's space count, and
@@ -27,15 +28,18 @@ fn done(bench: Bench, call: &[u8], rest: Window, image: &mut [u8], buffer: &mut 
     let mut text = [0u8; 1024];
     let left = driving::step(&mut text, held, octets::part(image, 0, had), buffer, call);
     let next = left.held;
-    let mut more = false;
-    if stream::say(octets::part(&text, 0, left.count)) {
-        more = left.more;
-    }
+    let sent = stream::out(
+        &text,
+        Texts {
+            count: left.count,
+            going: left.more,
+        },
+    );
     Bench {
         held: next,
         image: driving::image_after(image, had, call),
         rest,
-        more,
+        more: sent.going,
     }
 }
 

@@ -10,7 +10,8 @@ use borrow.Author.Tests.{le-leb}
 use lib.ListN.{length, getD, take, drop, replicate}
 use lib.Seq.{getD-append-add, getD-drop}
 use Rattle.octets.specs.Numbers.{lowFirst, highFirst}
-use Rattle.octets.specs.Over.{over, fitsAt}
+use Rattle.octets.specs.Over.{over}
+use Rattle.octets.specs.Calls.{fitsAt}
 use Rattle.octets.proofs.Outcome.{RuledOut, RuledOutWith, Place, lent}
 use Rattle.card.specs.State.{cardAtPowerOn, withOctets}
 use Rattle.card.specs.Gap.{Outcome, gapped}

@@ -11,7 +11,8 @@ use denote.Enum.Declared.{tagOf}
 use borrow.Author.Tests.{le-leb}
 use lib.ListN.{length, take, drop, getD, length-append, length-drop, take-append-drop}
 use lib.Seq.{length-take-le, take-all, drop-cons, drop-append-le, drop-length}
-use Rattle.octets.specs.Over.{fitsAt, laidIn}
+use Rattle.octets.specs.Over.{laidIn}
+use Rattle.octets.specs.Calls.{fitsAt}
 use Rattle.octets.proofs.Choice.{told}
 use Rattle.octets.proofs.Outcome.{one-outcome, does-one}
 use Rattle.octets.proofs.Over.{Put, over-first}

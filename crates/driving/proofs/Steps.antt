@@ -9,7 +9,8 @@ use borrow.Author.Tests.{le-leb}
 use lib.ListN.{length, take, drop, length-append, length-take, length-drop}
 use lib.Seq.{take-append-seam}
 use Rattle.octets.specs.Choice.{if_then_else_}
-use Rattle.octets.specs.Over.{fitsAt, laidIn}
+use Rattle.octets.specs.Over.{laidIn}
+use Rattle.octets.specs.Calls.{fitsAt}
 use Rattle.octets.proofs.Choice.{if-both}
 use Rattle.deeds.specs.declared.Order.{Order}
 use Rattle.card.specs.Gap.{gapped}

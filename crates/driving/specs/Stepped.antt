@@ -6,7 +6,8 @@ use mathlib.Core.List.{List, []}
 use mathlib.Core.Path.{_≡_}
 use lib.ListN.{length}
 use Rattle.octets.specs.Choice.{if_then_else_}
-use Rattle.octets.specs.Over.{fitsAt, laidIn, Does}
+use Rattle.octets.specs.Over.{laidIn, Does}
+use Rattle.octets.specs.Calls.{fitsAt}
 use Rattle.card.specs.declared.Card.{Card}
 use Rattle.card.specs.declared.Gone.{Gone}
 use Rattle.input.specs.declared.Call.{Call}

@@ -11,6 +11,7 @@ ghost use Rattle.driving.specs.Driven.{atStart, imageOf, gapStep, callSt
 ghost use Rattle.driving.specs.Stepped.{benchOf, heldOf, goneLine, silentLeft, Writes, Stepped, ImageAfter};
 use card::Card;
 use card::Gone;
+use frame::Judged;
 use input::Call;
 
 // What is held between two calls: the card, the clock, how many octets of the reply buffer a gap is lent.
@@ -161,6 +162,6 @@ pub fn start() -> Held
     Held {
         card: Card::power_on(),
         clock: [0; 7],
-        room: 261,
+        room: Judged::LONGEST as u16,
     }
 }

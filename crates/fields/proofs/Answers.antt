@@ -21,7 +21,8 @@ use Rattle.fields.specs.declared.DatesFound.the-variants as dates
 use Rattle.fields.specs.declared.ValueFound.the-variants as value
 use Rattle.fields.specs.declared.EventFound.the-variants as event
 use Rattle.fields.specs.Parts.{linkOf, dateOf, makerOf, productOf, pointOf, passwordOf, firstDate, secondDate, valueOf, qualityOf, spaOf, spqOf, eventLabel, isKind}
-use Rattle.fields.specs.Answers.{identityFound, leading, pointsFrom, pointsOf, pointIn, datesAt, datesPlace, datesFound, valueFound, eventFound}
+use Rattle.fields.specs.Answers.{identityFound, leading, pointsFrom, pointsOf, pointIn, datesAt, datesPlace, datesFound}
+use Rattle.fields.specs.Calls.{valueFound, eventFound}
 use Rattle.fields.proofs.Parts.{cut, cut-out}
 
 module _ (s : List ℕ) (at : ℕ) where

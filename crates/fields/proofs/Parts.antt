@@ -1,16 +1,18 @@
 -- Numbers octet by octet; the record that is cut out of octets, and its key.
 -- A part as long as a record of the kind that stands there is that record. Assumes nothing.
-use Prim.Native.Nat.{ℕ, suc, _+_, _-_, _≤_, _<_}
+use Prim.Native.Nat.{ℕ, suc, _+_, _-_, _^_, _≤_, _<_}
 use mathlib.Core.Bool.{Bool, true, false}
 use mathlib.Core.List.{List, [], _∷_}
 use mathlib.Core.Path.{_≡_, refl, ap, sym, _∙_}
+use native.Mathlib.Nat.{pow-le-pow-right}
 use native.Mathlib.Omega.{arith}
 use borrow.Author.Tests.{eqb-true, eq-eqb, ne-eqb}
 use lib.Dec.{eqb}
-use lib.ListN.{length, getD, take, drop}
+use lib.ListN.{length, getD, take, drop, length-take}
 use Rattle.octets.specs.Choice.{if_then_else_}
 use Rattle.octets.specs.Numbers.{highFirst}
 use Rattle.octets.proofs.Lists.{octetsAt, part-at}
+use Rattle.octets.proofs.Numbers.{Octets, octets-take, octets-drop, high-bound}
 use Rattle.records.specs.Records.{lengthOf, kindOf, wholeAt, recordAt, kindAt}
 use Rattle.records.proofs.Records.{itself, kind-there, kind-none, kind-whole, kind-facts}
 use Rattle.label.specs.Label.{labelAAt, labelBAt}
@@ -35,6 +37,13 @@ number-4 s at h =
     let two : suc (suc at) ≡ at + 2 = omega arith in
     let one : suc at ≡ at + 1 = omega arith in
     number-at 4 s at h ∙ rw (three, two, one)
+
+-- and has its width
+pub number-small : (width at : ℕ) (s : List ℕ) → Octets s → numberAt width s at < 256 ^ width
+unfolding numberAt
+number-small width at s o =
+    let size : length (take width (drop at s)) ≤ width = omega (arith, length-take width (drop at s)) in
+    omega (arith, pow-le-pow-right {n = 256} (omega arith) size, high-bound (take width (drop at s)) (octets-take width (drop at s) (octets-drop at s o)))
 
 -- a part of the octets, as long as a record of the kind that stands there, is that record
 module _ (s : List ℕ) (at : ℕ) where

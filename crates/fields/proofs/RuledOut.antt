@@ -36,7 +36,8 @@ use Rattle.fields.specs.declared.EventFound.the-variants as event
 use Rattle.label.specs.Label.{labelAAt, labelBAt}
 use Rattle.fields.specs.Parts.{numberAt, linkOf, makerOf, productOf, pointOf, passwordOf, secondDate, readingLabel, valueOf, qualityOf, spaOf, eventLabel}
 use Rattle.fields.specs.working.Key.{atMinute, noLabel, key, keyOf, keyAt, keyAs}
-use Rattle.fields.specs.Answers.{identityFound, leading, pointsFrom, pointsOf, pointIn, pointFound, datesAt, datesPlace, datesFound, valueFound, eventFound}
+use Rattle.fields.specs.Answers.{identityFound, leading, pointsFrom, pointsOf, pointIn, pointFound, datesAt, datesPlace, datesFound}
+use Rattle.fields.specs.Calls.{valueFound, eventFound}
 use Rattle.fields.proofs.key_at.Reads as key-at
 use Rattle.fields.proofs.reading_key.Reads as reading-key
 use Rattle.fields.proofs.event_key.Reads as event-key

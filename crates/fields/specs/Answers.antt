@@ -1,9 +1,9 @@
 -- The single parts of an image. Each is what stands there, or that nothing does, so that any octets have an answer.
 -- Assumes nothing.
 use Prim.Native.Nat.{ℕ, _+_}
-use mathlib.Core.Bool.{Bool, _&&_}
+use mathlib.Core.Bool.{Bool}
 use mathlib.Core.List.{List, [], _∷_, flatten}
-use lib.Dec.{leb, eqb}
+use lib.Dec.{eqb}
 use lib.ListN.{length}
 use Rattle.octets.specs.Choice.{if_then_else_}
 use Rattle.address.specs.declared.PointAddress.{PointAddress}
@@ -14,11 +14,7 @@ use Rattle.fields.specs.declared.PointFound.{PointFound}
 use Rattle.fields.specs.declared.PointFound.the-variants as point
 use Rattle.fields.specs.declared.DatesFound.{DatesFound}
 use Rattle.fields.specs.declared.DatesFound.the-variants as dates
-use Rattle.fields.specs.declared.ValueFound.{ValueFound}
-use Rattle.fields.specs.declared.ValueFound.the-variants as value
-use Rattle.fields.specs.declared.EventFound.{EventFound}
-use Rattle.fields.specs.declared.EventFound.the-variants as event
-use Rattle.fields.specs.Parts.{linkOf, dateOf, makerOf, productOf, pointOf, passwordOf, firstDate, secondDate, valueOf, qualityOf, spaOf, spqOf, eventLabel, isKind}
+use Rattle.fields.specs.Parts.{linkOf, dateOf, makerOf, productOf, pointOf, passwordOf, firstDate, secondDate, isKind}
 
 -- version 1, then records: the first stands at place 1
 unfoldable pub recordsOf : List ℕ → List (List ℕ)
@@ -66,17 +62,3 @@ datesPlace image = placeAfter image 1 + length (flatten (pointsOf image))
 
 unfoldable pub datesFound : List ℕ → DatesFound
 datesFound image = datesAt image (datesPlace image)
-
--- of the reading at a place: the value and quality of an object, 1 to 6
-unfoldable pub valueFound : ℕ → List ℕ → ℕ → ValueFound
-valueFound object image at =
-    let r = recordAt image at in
-    if eqb (kindAt image at) 4 && (leb 1 object && leb object 6) then value.Is (record { value = valueOf object r; quality = qualityOf object r }) else
-    value.Nothing
-
--- the event at a place
-unfoldable pub eventFound : List ℕ → ℕ → EventFound
-eventFound image at =
-    let r = recordAt image at in
-    if eqb (kindAt image at) 5 then event.Is (record { spa = spaOf r; spq = spqOf r; label = eventLabel r }) else
-    event.Nothing

@@ -1,3 +1,4 @@
 pub mod Parts
 pub mod working
 pub mod Answers
+pub mod Calls

@@ -15,7 +15,8 @@ use Rattle.frame.specs.declared.Form.the-variants.{Fixed, Variable}
 use Rattle.frame.specs.declared.Service.the-variants.{Reset, UserData, Status, Collection}
 use Rattle.frame.specs.declared.Asked.{Asked}
 use Rattle.frame.specs.declared.Asked.the-variants.{Is, NotOffered}
-use Rattle.frame.specs.Controls.{offered, askedSays}
+use Rattle.frame.specs.Controls.{offered}
+use Rattle.frame.specs.Calls.{askedSays}
 
 -- one of so many control octets
 abbrev pub among : ℕ → List ℕ → Bool

@@ -1,6 +1,6 @@
 -- What the forms of a frame are, as facts instead of tests; and the verdict in each of its cases.
 -- Condition by condition, over the family. Assumes nothing.
-use Prim.Native.Nat.{ℕ, _+_, _-_, _≤_, _<_}
+use Prim.Native.Nat.{ℕ, suc, _+_, _-_, _≤_, _<_}
 use mathlib.Core.Bool.{Bool, true, false, not, and-true}
 use mathlib.Core.List.{List}
 use mathlib.Core.Path.{_≡_, refl, sym, _∙_}
@@ -16,7 +16,19 @@ use Rattle.octets.proofs.Conditions.{holds-at, holds-none, holds-more}
 use Rattle.frame.specs.declared.Fault.{Fault}
 use Rattle.frame.specs.declared.Fault.the-variants.{Empty, Long, Malformed, Spoiled}
 use Rattle.frame.specs.Family.{Family}
-use Rattle.frame.specs.Frame.{Frame, Verdict, refused, sound, covered, sumRight, fixedForm, variableForm, startOf, saidFixed, saidVariable, said, judge}
+use Rattle.frame.specs.Frame.{Frame, faultNumber, Verdict, refused, sound, covered, sumRight, fixedForm, variableForm, startOf, saidFixed, saidVariable, said, judge}
+
+-- no fault has the number of a sound frame
+pub fault-some : (fault : Fault) → faultNumber fault ≡ 0 → ⊥
+fault-some Empty e = omega arith
+fault-some Long e = omega arith
+fault-some Malformed e = omega arith
+fault-some Spoiled e = omega arith
+
+-- what a family must be like: L counts the control octet and the address, so it is never less than these, and it is an octet
+pub record Proper (k : Family) : Type 0 where
+  pub counts : suc (k .width) ≤ k .least
+  pub octet : k .least ≤ 255
 
 pub record FixedRun (k : Family) (run : List ℕ) : Type 0 where
   pub long : length run ≡ k .width + 4

@@ -21,7 +21,7 @@ use Rattle.frame.specs.declared.Fault.{Fault}
 use Rattle.frame.specs.declared.Fault.the-variants.{Empty, Long, Malformed, Spoiled}
 use Rattle.frame.specs.Family.{sapr}
 use Rattle.frame.specs.Frame.{Frame, fixed, variable, Verdict, refused, sound, covered, sumRight, fixedForm, variableForm, saidFixed, saidVariable, judge}
-use Rattle.frame.specs.Judging.{verdictSays, judgedSays, userPart}
+use Rattle.frame.specs.Calls.{verdictSays, judgedSays, userPart}
 use Rattle.frame.proofs.Sealed.{covered-length, covered-at, part-covered}
 use Rattle.frame.proofs.Frame.{VariableRun, fixed-facts, variable-facts, judge-long, judge-fixed, judge-variable, Sound, as-fixed, as-variable, sound-facts}
 

@@ -12,10 +12,10 @@ use lib.Seq.{take-set-le, take-set-lt, drop-set-add, getD-set-same, getD-set-oth
 use Rattle.octets.specs.Sum.{octetSum, checksum}
 use Rattle.octets.proofs.Numbers.{Octets}
 use Rattle.octets.proofs.Sum.{octet-sum-set}
-use Rattle.frame.specs.Family.{Family, Proper}
+use Rattle.frame.specs.Family.{Family}
 use Rattle.frame.specs.Frame.{Frame, sound, covered, sumRight, judge}
 use Rattle.frame.proofs.Sealed.{covered-length, covered-at}
-use Rattle.frame.proofs.Frame.{FixedRun, VariableRun, Sound, as-fixed, as-variable, sound-facts, sum-facts}
+use Rattle.frame.proofs.Frame.{Proper, FixedRun, VariableRun, Sound, as-fixed, as-variable, sound-facts, sum-facts}
 
 -- sums that are the same but for one octet
 one-value : (x y a b : ℕ) → x + a ≡ y + b → x % 256 ≡ y % 256 → a < 256 → b < 256 → a ≡ b

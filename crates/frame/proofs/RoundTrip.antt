@@ -16,11 +16,11 @@ use Rattle.octets.proofs.Numbers.{Octets, octets-take, octets-drop, low-length,
 use Rattle.frame.specs.declared.Control.{Control}
 use Rattle.frame.specs.declared.Control.the-variants.{Ack, Nack, Data, NothingToGive, Status}
 use Rattle.frame.specs.declared.Reply.{Reply}
-use Rattle.frame.specs.Family.{Family, Proper, sapr}
+use Rattle.frame.specs.Family.{Family, sapr}
 use Rattle.frame.specs.Writing.{frameAs, replyFrame, replyOctets}
 use Rattle.frame.specs.Frame.{Frame, sound, fixed, variable, covered, sumRight, saidFixed, saidVariable, judge, bodyOf, startWith, written}
 use Rattle.frame.proofs.Sealed.{sealed, sealed-length, sealed-body, sealed-sum, sealed-end, covered-length, unsealed}
-use Rattle.frame.proofs.Frame.{FixedRun, VariableRun, fixed-test, variable-test, not-fixed, judge-fixed, judge-variable, Sound, as-fixed, as-variable, sound-facts, sum-facts}
+use Rattle.frame.proofs.Frame.{Proper, FixedRun, VariableRun, fixed-test, variable-test, not-fixed, judge-fixed, judge-variable, Sound, as-fixed, as-variable, sound-facts, sum-facts}
 
 -- the checksum of what was put together is right
 summed : (start body : List ℕ) → sumRight (length start) (sealed start body (checksum body) 0x16) ≡ true

@@ -36,8 +36,8 @@ use Rattle.frame.specs.declared.Written.the-variants.{Short, Octets}
 use Rattle.frame.specs.Family.{sapr}
 use Rattle.frame.specs.Frame as f
 use Rattle.frame.specs.Controls.{fromCentre, offered}
-use Rattle.frame.specs.Judging.{verdictSays, judgedSays}
-use Rattle.frame.specs.Writing.{replyFrame, replyOctets, writtenSays, answerTo, leftOf}
+use Rattle.frame.specs.Calls.{verdictSays, judgedSays, writtenSays, answerTo, leftOf}
+use Rattle.frame.specs.Writing.{replyFrame, replyOctets}
 use Rattle.frame.proofs.judge.Reads as judge
 use Rattle.frame.proofs.user.Reads as user
 use Rattle.frame.proofs.service_of.Reads as service-of

@@ -1,19 +1,17 @@
--- What is written into a buffer is the frame of the definition, in one part or in three.
+-- What is written into a buffer is the frame of the definition, in one part or in several.
 -- By the laws of one list written over another. Assumes nothing.
-use Prim.Native.Nat.{ℕ, suc, _+_, _/_, _%_, _≤_, _<_, min}
-use mathlib.Core.Bool.{Bool, true, false}
+use Prim.Native.Nat.{ℕ, suc, _+_, _%_, _≤_, _<_}
+use mathlib.Core.Bool.{Bool}
 use mathlib.Core.List.{List, [], _∷_, _++_}
 use mathlib.Core.Path.{_≡_, refl, sym, ap, _∙_}
 use native.Mathlib.Omega.{arith}
-use borrow.Author.Tests.{lt-ltb, le-ltb, leb-true, leb-false}
-use lib.Dec.{leb}
-use lib.ListN.{length, getD, take, drop, length-append}
-use lib.Seq.{take-all}
+use borrow.Author.Tests.{lt-ltb, le-ltb}
+use lib.ListN.{length, getD, length-append}
 use Rattle.octets.specs.Numbers.{lowOctets}
 use Rattle.octets.specs.Sum.{checksum}
-use Rattle.octets.specs.Over.{over, laidIn, Does}
+use Rattle.octets.specs.Over.{laidIn, Does}
 use Rattle.octets.specs.Keeping.{octetsOf}
-use Rattle.octets.proofs.Over.{Put, over-first, over-after, over-length, put-fits}
+use Rattle.octets.proofs.Over.{Put, laid-first, laid-more}
 use Rattle.octets.proofs.Sum.{checksum-append}
 use Rattle.frame.specs.declared.Control.{Control}
 use Rattle.frame.specs.declared.Reply.{Reply}
@@ -21,55 +19,61 @@ use Rattle.frame.specs.declared.Written.{Written}
 use Rattle.frame.specs.declared.Written.the-variants.{Short, Octets}
 use Rattle.frame.specs.Family.{sapr}
 use Rattle.frame.specs.Frame.{Frame, fixed, variable, bodyOf, startWith, written}
-use Rattle.frame.specs.Writing.{frameAs, replyFrame, replyOctets, writtenSays, answerTo, leftOf}
+use Rattle.frame.specs.Writing.{frameAs, replyFrame, replyOctets}
+use Rattle.frame.specs.Calls.{writtenSays, answerTo, leftOf}
 
 -- a frame in the first octets of a buffer, and its length
 abbrev pub Stands : List ℕ → Frame → ℕ → List ℕ → Type 0
-Stands buffer f n left = (n ≡ length (written sapr f)) × (left ≡ written sapr f ++ drop (length (written sapr f)) buffer)
+Stands buffer f n left = Does (length (written sapr f)) (laidIn buffer (written sapr f)) n left
 
-module _ (buffer a : List ℕ) (c address : ℕ) (room : 261 ≤ length buffer) (low : a ≡ lowOctets 2 address) where
-  pub fixed-stands : {done : Bool} {left : List ℕ} (sum : ℕ) → sum ≡ checksum (c ∷ getD a 0 0 ∷ getD a 1 0 ∷ [])
-      → Put buffer 0 (0x10 ∷ c ∷ getD a 0 0 ∷ getD a 1 0 ∷ sum ∷ 0x16 ∷ []) done left → Stands buffer (fixed c address) 6 left
-  unfolding written startWith bodyOf lowOctets
-  fixed-stands sum e p = (refl, put-fits _ _ _ p (omega arith) ∙ over-first buffer _ ∙ rw (e, low))
+module _ (c address : ℕ) where
+  -- C A A, octet by octet
+  pub body-octets : (low : List ℕ) → low ≡ lowOctets 2 address → c ∷ getD low 0 0 ∷ getD low 1 0 ∷ [] ≡ bodyOf sapr (fixed c address)
+  unfolding bodyOf lowOctets
+  body-octets low e = rw e
 
-  -- the head, the user octets, the checksum and the end octet, one after the other
-  pub variable-stands : {done₁ done₂ done₃ : Bool} {left₁ left₂ left₃ : List ℕ} (user : List ℕ) (n sum : ℕ) → length user ≡ n → n ≤ 252
-      → sum ≡ (checksum (c ∷ getD a 0 0 ∷ getD a 1 0 ∷ []) + checksum user) % 256
-      → Put buffer 0 (0x68 ∷ (n + 3) ∷ (n + 3) ∷ 0x68 ∷ c ∷ getD a 0 0 ∷ getD a 1 0 ∷ []) done₁ left₁
-      → Put left₁ 7 user done₂ left₂ → Put left₂ (n + 7) (sum ∷ 0x16 ∷ []) done₃ left₃ → Stands buffer (variable c address user) (n + 9) left₃
-  unfolding written startWith bodyOf lowOctets
-  variable-stands {left₁ = left₁} {left₂ = left₂} {left₃ = left₃} user n sum long small e p q r =
-      let head : List ℕ = 0x68 ∷ (n + 3) ∷ (n + 3) ∷ 0x68 ∷ c ∷ getD a 0 0 ∷ getD a 1 0 ∷ [] in
-      let tail : List ℕ = sum ∷ 0x16 ∷ [] in
-      let one : left₁ ≡ over buffer 0 head = put-fits _ _ _ p (omega arith) in
-      let long₁ : length left₁ ≡ length buffer = ap length one ∙ over-length buffer 0 head (omega arith) in
-      let two : left₂ ≡ over buffer 0 (head ++ user) =
-      put-fits _ _ _ q (omega arith) ∙ ap (λ (l : List ℕ). over l 7 user) one ∙ over-after buffer 0 head user 7 refl (omega arith) in
-      let both : length (head ++ user) ≡ n + 7 = omega (arith, length-append head user) in
-      let long₂ : length left₂ ≡ length buffer = ap length two ∙ over-length buffer 0 (head ++ user) (omega arith) in
-      let three : left₃ ≡ over buffer 0 (head ++ user ++ tail) =
-      put-fits _ _ _ r (omega arith) ∙ ap (λ (l : List ℕ). over l (n + 7) tail) two ∙ over-after buffer 0 (head ++ user) tail (n + 7) (omega arith) (omega arith) in
-      let counted : n + 3 ≡ suc (suc (suc (length user))) = omega arith in
-      let summed : sum ≡ checksum (c ∷ address % 256 ∷ address / 256 % 256 ∷ user) =
-      e ∙ rw low (checksum-append (c ∷ address % 256 ∷ address / 256 % 256 ∷ []) user) in
-      let whole : head ++ user ++ tail ≡ written sapr (variable c address user) = rw (counted, summed, low) in
-      (omega (arith, ap length whole, length-append (head ++ user) tail), three ∙ over-first buffer (head ++ user ++ tail) ∙ ap (λ (l : List ℕ). l ++ drop (length l) buffer) whole)
+  module _ (buffer body : List ℕ) (room : 261 ≤ length buffer) (e : body ≡ bodyOf sapr (fixed c address)) where
+    pub fixed-stands : {done : Bool} {left : List ℕ} (sum : ℕ) → sum ≡ checksum body
+        → Put buffer 0 (0x10 ∷ getD body 0 0 ∷ getD body 1 0 ∷ getD body 2 0 ∷ sum ∷ 0x16 ∷ []) done left → Stands buffer (fixed c address) 6 left
+    unfolding written startWith bodyOf lowOctets
+    fixed-stands sum s p = record { answers = refl; left-so = laid-first buffer _ p (omega arith) ∙ rw (s, e) }
 
--- so many of an array's octets as are asked for, but no more than it has
-pub clipped : (user : List ℕ) (users : ℕ) → length user ≡ 252 → take (min users 252) user ≡ take users user
-clipped user users long = by-size (leb users 252) refl
-  where
-    by-size : (t : Bool) → leb users 252 ≡ t → take (min users 252) user ≡ take users user
-    by-size true e =
-        let h : users ≤ 252 = leb-true users 252 e in
-        let least : min users 252 ≡ users = omega arith in
-        rw least
-    by-size false e =
-        let h : 252 < users = leb-false users 252 e in
-        let all : length user ≤ min users 252 = omega arith in
-        let more : length user ≤ users = omega arith in
-        take-all (min users 252) user all ∙ sym (take-all users user more)
+  module _ (user : List ℕ) where
+    -- 68 L L 68 C A A, and S 16
+    pub head-octets : (body : List ℕ) → body ≡ bodyOf sapr (fixed c address)
+        → 0x68 ∷ (length user + 3) ∷ (length user + 3) ∷ 0x68 ∷ getD body 0 0 ∷ getD body 1 0 ∷ getD body 2 0 ∷ []
+        ≡ startWith sapr (variable c address user) ++ bodyOf sapr (fixed c address)
+    unfolding startWith bodyOf lowOctets
+    head-octets body e =
+        let counted : length user + 3 ≡ suc (suc (suc (length user))) = omega arith in
+        rw (e, counted)
+
+    pub sum-octet : (sum s u : ℕ) (body : List ℕ) → body ≡ bodyOf sapr (fixed c address) → s ≡ checksum body → u ≡ checksum user → sum ≡ (s + u) % 256
+        → sum ≡ checksum (bodyOf sapr (variable c address user))
+    unfolding bodyOf
+    sum-octet sum s u body e es eu h = h ∙ rw (es, eu, e) (checksum-append (bodyOf sapr (fixed c address)) user)
+
+    module _ (buffer : List ℕ) (room : 261 ≤ length buffer) (small : length user ≤ 252) {done : Bool} {left : List ℕ} where
+      -- one part after the other
+      pub front-stands : {done₀ : Bool} {left₀ : List ℕ} (head : List ℕ) → head ≡ startWith sapr (variable c address user) ++ bodyOf sapr (fixed c address)
+          → Put buffer 0 head done₀ left₀ → Put left₀ 7 user done left
+          → left ≡ laidIn buffer (startWith sapr (variable c address user) ++ bodyOf sapr (variable c address user))
+      unfolding startWith bodyOf lowOctets
+      front-stands {left₀ = left₀} head e p q =
+          let long : length head ≡ 7 = rw e in
+          rw e at (laid-more buffer head user left₀ 7 (laid-first buffer head p (omega arith)) q (sym long) (omega arith))
+
+      pub variable-stands : {left₀ : List ℕ} (end : List ℕ) → left₀ ≡ laidIn buffer (startWith sapr (variable c address user) ++ bodyOf sapr (variable c address user))
+          → end ≡ checksum (bodyOf sapr (variable c address user)) ∷ 0x16 ∷ [] → Put left₀ (length user + 7) end done left
+          → Stands buffer (variable c address user) (length user + 9) left
+      unfolding written startWith bodyOf lowOctets
+      variable-stands {left₀ = left₀} end front e p =
+          let before = startWith sapr (variable c address user) ++ bodyOf sapr (variable c address user) in
+          let two : length end ≡ 2 = rw e in
+          record {
+            answers = omega (arith, length-append user (checksum (bodyOf sapr (variable c address user)) ∷ 0x16 ∷ []));
+            left-so = laid-more buffer before end left₀ (length user + 7) front p (omega arith) (omega arith) ∙ ap (λ (l : List ℕ). laidIn buffer (before ++ l)) e;
+          }
 
 -- a buffer that is too short, and a reply that stands in one
 pub short-refused : (buffer octets : List ℕ) → length buffer < 261 → Does (answerTo buffer octets) (leftOf buffer octets) Short buffer
@@ -80,7 +84,7 @@ pub reply-stands : {left : List ℕ} {n : ℕ} (buffer : List ℕ) (reply : Repl
     → Stands buffer (frameAs c (reply .link .0) (octetsOf (reply .user))) n left
     → Does (answerTo buffer (replyOctets reply)) (leftOf buffer (replyOctets reply)) (Octets n) left
 unfolding replyOctets replyFrame answerTo leftOf
-reply-stands buffer reply c e h s = rw e (record { answers = rw (le-ltb _ _ h, s .0); left-so = rw (le-ltb _ _ h) (s .1) })
+reply-stands buffer reply c e h s = rw e (record { answers = rw (le-ltb _ _ h, s .answers); left-so = rw (le-ltb _ _ h) (s .left-so) })
 
 -- what is written into a buffer that is long enough
 module _ (buffer octets : List ℕ) {left : List ℕ} (room : 261 ≤ length buffer) where

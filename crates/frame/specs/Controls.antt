@@ -2,9 +2,8 @@
 -- Assumes nothing.
 use Prim.Native.Nat.{ℕ}
 use mathlib.Core.Bool.{Bool, true, false, not, _&&_}
-use mathlib.Core.List.{[], _∷_}
+use mathlib.Core.List.{[]}
 use lib.Dec.{eqb}
-use Rattle.octets.specs.Answer.{Answer}
 use Rattle.octets.specs.Bits.{bits_to_of_}
 use Rattle.octets.specs.First.{When, _⇒_▸_, firstOf_else_}
 use Rattle.frame.specs.declared.Form.{Form}
@@ -63,14 +62,6 @@ askedBy (variable c a user) = offered Variable c
 pub data Counts : Service → ℕ → Type 0 where
   user-data : {bit : ℕ} → Counts (UserData bit) bit
   collects : {bit : ℕ} → Counts (Collection bit) bit
-
--- the paper's numbers: 0 with the function and, where it counts, the FCB; or 6
-abbrev pub askedSays : Asked → Answer
-askedSays NotOffered = record { number = 6; values = [] }
-askedSays (Is Reset) = record { number = 0; values = 0 ∷ [] }
-askedSays (Is (UserData bit)) = record { number = 0; values = 3 ∷ bit ∷ [] }
-askedSays (Is Status) = record { number = 0; values = 9 ∷ [] }
-askedSays (Is (Collection bit)) = record { number = 0; values = 11 ∷ bit ∷ [] }
 
 -- C of replies: 00 ACK, 01 NACK, 08 data, 09 nothing to give, 0B status; ACD and DFC are 0
 abbrev pub controlOf : Control → ℕ

@@ -19,6 +19,13 @@ pub data Frame : Type 0 where
   fixed : ℕ → ℕ → Frame
   variable : ℕ → ℕ → List ℕ → Frame
 
+-- why a run is no sound frame: 1 empty, 2 over 261 octets, 3 not the form of a frame, 4 checksum wrong
+abbrev pub faultNumber : Fault → ℕ
+faultNumber Empty = 1
+faultNumber Long = 2
+faultNumber Malformed = 3
+faultNumber Spoiled = 4
+
 -- what a run is: no sound frame, and why, or a sound one
 pub data Verdict : Type 0 where
   refused : Fault → Verdict

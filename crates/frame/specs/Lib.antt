@@ -1,5 +1,5 @@
 pub mod Family
 pub mod Frame
-pub mod Judging
 pub mod Controls
 pub mod Writing
+pub mod Calls

@@ -1,16 +1,17 @@
 // Frames of FT 1.2: a run is judged, its control field read, a reply written.
 use address::LinkAddress;
-ghost use Prim.Native.Nat.{_+_, _≤_, min};
+ghost use Prim.Native.Nat.{_+_, _≤_};
 ghost use mathlib.Core.List.{[], _∷_, _++_};
 ghost use mathlib.Core.Path.{_≡_};
-ghost use lib.ListN.{length, getD, drop, take};
+ghost use lib.ListN.{length, getD, take};
 ghost use Rattle.frame.specs.Family.{sapr};
 ghost use Rattle.octets.specs.Numbers.{lowFirst};
-ghost use Rattle.octets.specs.Over.{Does};
-ghost use Rattle.frame.specs.Frame.{fixed, variable, fixedForm, variableForm, sumRight, judge, written};
-ghost use Rattle.frame.specs.Judging.{faultNumber, verdictSays, judgedSays, userPart};
+ghost use Rattle.octets.specs.Sum.{checksum};
+ghost use Rattle.octets.specs.Over.{laidIn, Does};
+ghost use Rattle.frame.specs.Frame.{fixed, variable, fixedForm, variableForm, sumRight, judge, bodyOf, startWith, written, faultNumber};
+ghost use Rattle.frame.specs.Calls.{verdictSays, judgedSays, userPart, answerTo, leftOf};
 ghost use Rattle.frame.specs.Controls.{offered};
-ghost use Rattle.frame.specs.Writing.{replyOctets, plain, answerTo, leftOf};
+ghost use Rattle.frame.specs.Writing.{replyOctets, plain};
 use octets::Kept;
 
 // Why a run is no sound frame: empty, over 261 octets, not the form of a frame, a wrong checksum.
@@ -310,59 +311,94 @@ pub fn write(buffer: &mut [u8], reply: Reply) -> Written
     }
 }
 
-fn write_fixed(buffer: &mut [u8], control: u8, address: u16) -> u16
-    requires { ⌜ 261 ≤ length (now buffer) ⌝ }
-    ensures { λ r. ⌜ (r ≡ length (written sapr (fixed control address)))
-        × (now (buffer .exit) ≡ written sapr (fixed control address) ++ drop (length (written sapr (fixed control address))) (now (buffer .entry))) ⌝ }
+// C A A: the control field, and the address low octet first.
+fn control_and_address(control: u8, address: u16) -> [u8; 3]
+    ensures { λ r. ⌜ r ≡ bodyOf sapr (fixed control address) ⌝ }
 {
     let a = octets::low_octets_2(address);
-    let sum = octets::checksum(&[control, a[0], a[1]]);
+    [control, a[0], a[1]]
+}
+
+fn write_fixed(buffer: &mut [u8], control: u8, address: u16) -> u16
+    requires { ⌜ 261 ≤ length (now buffer) ⌝ }
+    ensures { λ r. ⌜ Does (length (written sapr (fixed control address))) (laidIn (now (buffer .entry)) (written sapr (fixed control address))) r (now (buffer .exit)) ⌝ }
+{
+    let body = control_and_address(control, address);
+    let sum = octets::checksum(&body);
     octets::put(
         buffer,
         0,
-        &[Judged::START_FIXED, control, a[0], a[1], sum, Judged::END],
+        &[
+            Judged::START_FIXED,
+            body[0],
+            body[1],
+            body[2],
+            sum,
+            Judged::END,
+        ],
     );
     Judged::FIXED as u16
 }
 
 fn write_variable(buffer: &mut [u8], control: u8, address: u16, user: [u8; 252], users: u8) -> u16
     requires { ⌜ 261 ≤ length (now buffer) ⌝ }
-    ensures { λ r. ⌜ (r ≡ length (written sapr (variable control address (take users user))))
-        × (now (buffer .exit) ≡ written sapr (variable control address (take users user))
-        ++ drop (length (written sapr (variable control address (take users user)))) (now (buffer .entry))) ⌝ }
+    ensures { λ r. ⌜ Does (length (written sapr (variable control address (take users user)))) (laidIn (now (buffer .entry)) (written sapr (variable control address (take users user)))) r (now (buffer .exit)) ⌝ }
 {
-    let n = at_most(users);
-    let a = octets::low_octets_2(address);
-    let l = n + 3;
-    let end = n as usize;
-    let sum = std::num::wrapping_add_u8(
-        octets::checksum(&[control, a[0], a[1]]),
-        octets::checksum(&user[..end]),
-    );
-    octets::put(
+    write_parts(
         buffer,
-        0,
-        &[
-            Judged::START_VARIABLE,
-            l,
-            l,
-            Judged::START_VARIABLE,
-            control,
-            a[0],
-            a[1],
-        ],
-    );
-    octets::put(buffer, 7, &user[..end]);
-    octets::put(buffer, end + 7, &[sum, Judged::END]);
-    n as u16 + Judged::FRAMING as u16
+        control,
+        address,
+        octets::part(&user, 0, users as usize),
+    )
 }
 
-fn at_most(users: u8) -> u8
-    ensures { λ r. ⌜ r ≡ min users 252 ⌝ }
+fn write_parts(buffer: &mut [u8], control: u8, address: u16, user: &[u8]) -> u16
+    requires { ⌜ (261 ≤ length (now buffer)) × (length (now user) ≤ 252) ⌝ }
+    ensures { λ r. ⌜ Does (length (written sapr (variable control address (now (user .entry))))) (laidIn (now (buffer .entry)) (written sapr (variable control address (now (user .entry))))) r (now (buffer .exit)) ⌝ }
 {
-    if users as usize <= Kept::ROOM {
-        users
-    } else {
-        Kept::ROOM as u8
-    }
+    write_front(buffer, control, address, user);
+    octets::put(
+        buffer,
+        user.len() + 7,
+        &variable_end(control, address, user),
+    );
+    (user.len() + Judged::FRAMING) as u16
+}
+
+// 68 L L 68 C A A and the user octets.
+fn write_front(buffer: &mut [u8], control: u8, address: u16, user: &[u8])
+    requires { ⌜ (261 ≤ length (now buffer)) × (length (now user) ≤ 252) ⌝ }
+    ensures { λ _. ⌜ now (buffer .exit) ≡ laidIn (now (buffer .entry)) (startWith sapr (variable control address (now (user .entry))) ++ bodyOf sapr (variable control address (now (user .entry)))) ⌝ }
+{
+    octets::put(buffer, 0, &variable_head(control, address, user));
+    octets::put(buffer, 7, user);
+}
+
+// 68 L L 68 C A A.
+fn variable_head(control: u8, address: u16, user: &[u8]) -> [u8; 7]
+    requires { ⌜ length (now user) ≤ 252 ⌝ }
+    ensures { λ r. ⌜ r ≡ startWith sapr (variable control address (now (user .entry))) ++ bodyOf sapr (fixed control address) ⌝ }
+{
+    let l = user.len() as u8 + 3;
+    let body = control_and_address(control, address);
+    [
+        Judged::START_VARIABLE,
+        l,
+        l,
+        Judged::START_VARIABLE,
+        body[0],
+        body[1],
+        body[2],
+    ]
+}
+
+// S 16.
+fn variable_end(control: u8, address: u16, user: &[u8]) -> [u8; 2]
+    ensures { λ r. ⌜ r ≡ checksum (bodyOf sapr (variable control address (now (user .entry)))) ∷ 0x16 ∷ [] ⌝ }
+{
+    let body = control_and_address(control, address);
+    [
+        std::num::wrapping_add_u8(octets::checksum(&body), octets::checksum(user)),
+        Judged::END,
+    ]
 }

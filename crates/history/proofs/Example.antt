@@ -7,12 +7,11 @@ use mathlib.Core.List.{List, [], _∷_, reverse, reverseAux, cons≢nil}
 use mathlib.Core.Path.{_≡_, refl, sym, ap, _∙_}
 use native.Mathlib.Omega.{arith}
 use Rattle.history.specs.History.{Event, Symbol, Gap, Call, Stepped, Machine, answers, after, fed, closedRun, AllFit}
-use Rattle.history.specs.Invariant.{Invariant}
-use Rattle.history.specs.Sides.{Related}
-use Rattle.history.specs.Noise.{Noised, Deaf, Unnoticed}
+use Rattle.history.specs.Noise.{Noised}
 use Rattle.history.specs.Noise as N
-use Rattle.history.proofs.Invariant.{always}
-use Rattle.history.proofs.Noise.{unnoticed}
+use Rattle.history.proofs.Invariant.{Invariant, always}
+use Rattle.history.proofs.Sides.{Related}
+use Rattle.history.proofs.Noise.{Deaf, Unnoticed, unnoticed}
 
 -- the symbols so far, the last one first; how many frames were heard; how many runs were damaged
 record Ear : Type 0 where

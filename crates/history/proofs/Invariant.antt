@@ -1,8 +1,14 @@
 -- What every step keeps holds at each gap of a history and at its end.
 -- By recursion on the history. Assumes nothing.
 use mathlib.Core.List.{List, [], _∷_}
-use Rattle.history.specs.History.{Event, Symbol, Gap, Call, Machine, after, AllFit}
-use Rattle.history.specs.Invariant.{Invariant, AtGaps}
+use Rattle.history.specs.History.{Event, Symbol, Gap, Call, Machine, after, AllFit, AtGaps}
+
+module _ {S A G E O : Type 0} (m : Machine S A G E O) where
+  -- P holds after each step where it held before; of gaps this is asked where the loan is fit
+  pub record Invariant (Fit : G → Type 0) (P : S → Type 0) : Type 0 where
+    pub symbols : (s : S) (a : A) → P s → P (m .symbol s a)
+    pub gaps : (s : S) (g : G) → Fit g → P s → P (m .gap s g .state)
+    pub calls : (s : S) (e : E) → P s → P (m .call s e .state)
 
 module _ {S A G E O : Type 0} (m : Machine S A G E O) where
   pub always : {Fit : G → Type 0} {P : S → Type 0} → Invariant m Fit P → (s : S) (h : List (Event A G E)) → AllFit Fit h → P s

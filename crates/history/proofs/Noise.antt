@@ -1,14 +1,37 @@
--- Noise goes unnoticed by a deaf machine, whatever number of runs is put in at whatever number of places.
+-- The laws of a machine that is deaf to noise; and noise goes unnoticed by it, whatever number of runs is put in at whatever number of places.
 -- By recursion on how the noise was put in: the states stay alike, and the second kept, and at rest where noise may follow. Assumes nothing.
 use mathlib.Core.Bool.{Bool, true, false}
 use mathlib.Core.List.{List, [], _∷_}
 use mathlib.Core.Path.{_≡_, refl, sym, ap₂, subst}
-use Rattle.history.specs.History.{Event, Machine, answers, after, fed, AllFit}
-use Rattle.history.specs.Sides.{InStep, Related}
-use Rattle.history.specs.Noise.{Noised, Deaf, Unnoticed}
+use Rattle.history.specs.History.{Event, Machine, answers, after, fed, AllFit, Each}
+use Rattle.history.specs.Noise.{Noised, inserted, remaining}
 use Rattle.history.specs.Noise as N
 use Rattle.history.proofs.History.{closed-answers, closed-after}
-use Rattle.history.proofs.Sides.{in-step, in-pairs-same, Same, beside-itself}
+use Rattle.history.proofs.Invariant.{Invariant}
+use Rattle.history.proofs.Sides.{InStep, Related, in-step, in-pairs-same, Same, beside-itself}
+
+module _ {S A G E O : Type 0} (m : Machine S A G E O) (Fit : G → Type 0) (Noise : List A → Type 0)
+    (Kept : S → Type 0) (Alike : S → S → Type 0) (Rest : S → Type 0) (Mute : O → Type 0) where
+  -- the laws: states that are alike stay so and answer the same; a gap leaves the machine at rest, and other calls leave it so;
+  -- at rest, a run of noise gets no answer and leaves a state like the one before. Of gaps they are asked where the loan is fit, and rest
+  -- only of states that every step keeps: a gap may leave a state as it came, so there are others that it leaves unrested
+  pub record Deaf : Type 0 where
+    pub kept : Invariant m Fit Kept
+    pub alike-trans : (s t u : S) → Alike s t → Alike t u → Alike s u
+    pub symbol-alike : (s t : S) (a : A) → Alike s t → Alike (m .symbol s a) (m .symbol t a)
+    pub gap-alike : (s t : S) (g : G) → Fit g → Alike s t → Related Alike (λ (o o′ : O). o ≡ o′) (m .gap s g) (m .gap t g)
+    pub call-alike : (s t : S) (e : E) → Alike s t → Related Alike (λ (o o′ : O). o ≡ o′) (m .call s e) (m .call t e)
+    pub gap-rests : (s : S) (g : G) → Fit g → Kept s → Rest (m .gap s g .state)
+    pub call-rests : (s : S) (e : E) → Rest s → Rest (m .call s e .state)
+    pub noise-mute : (s : S) (run : List A) (g : G) → Rest s → Noise run → Fit g → Mute (m .gap (fed m s run) g .answer)
+    pub noise-alike : (s : S) (run : List A) (g : G) → Rest s → Noise run → Fit g → Alike s (m .gap (fed m s run) g .state)
+
+-- noise goes unnoticed: no run put in is answered, all other answers are the same, and the states at the end are alike
+pub record Unnoticed {S A G E O : Type 0} (m : Machine S A G E O) (Alike : S → S → Type 0) (Mute : O → Type 0)
+    {Fit : G → Type 0} {Noise : List A → Type 0} {fresh : Bool} {h h′ : List (Event A G E)} (n : Noised Fit Noise fresh h h′) (s t : S) : Type 0 where
+  pub unanswered : Each Mute (inserted n (answers m t h′))
+  pub same : remaining n (answers m t h′) ≡ answers m s h
+  pub alike : Alike (after m s h) (after m t h′)
 
 module _ {S A G E O : Type 0} {m : Machine S A G E O} {Fit : G → Type 0} {Noise : List A → Type 0}
     {Kept : S → Type 0} {Alike : S → S → Type 0} {Rest : S → Type 0} {Mute : O → Type 0} (d : Deaf m Fit Noise Kept Alike Rest Mute) where

@@ -49,6 +49,14 @@ AllFit Fit (Symbol a ∷ h) = AllFit Fit h
 AllFit Fit (Gap g ∷ h) = Fit g × AllFit Fit h
 AllFit Fit (Call e ∷ h) = AllFit Fit h
 
+-- at each gap of a history from s, the state there and what is lent are as Q says
+module _ {S A G E O : Type 0} (m : Machine S A G E O) where
+  abbrev pub AtGaps : (S → G → Type 0) → S → List (Event A G E) → Type 0
+  AtGaps Q s [] = Unit {0}
+  AtGaps Q s (Symbol a ∷ h) = AtGaps Q (m .symbol s a) h
+  AtGaps Q s (Gap g ∷ h) = Q s g × AtGaps Q (m .gap s g .state) h
+  AtGaps Q s (Call e ∷ h) = AtGaps Q (m .call s e .state) h
+
 -- each element of a list is as P says
 abbrev pub Each : {O : Type 0} → (O → Type 0) → List O → Type 0
 Each P [] = Unit {0}

@@ -1,4 +1,2 @@
 pub mod History
-pub mod Invariant
-pub mod Sides
 pub mod Noise

@@ -3,7 +3,8 @@
 // first records only where it differs from the last record's.
 ghost use mathlib.Core.Path.{_≡_};
 ghost use mathlib.Core.Bool.{true, not, _&&_};
-ghost use Rattle.label.specs.Label.{validA, validB, instant, beforeB, momentOf};
+ghost use Rattle.label.specs.Label.{validA, validB, instant, beforeB};
+ghost use Rattle.label.specs.Calls.{momentOf};
 ghost use Rattle.records.specs.Records.{wholeAt, recordAt};
 ghost use Rattle.fields.specs.working.Key.{key, noLabel, keyOf};
 ghost use Rattle.fields.specs.Answers.{pointsOf};

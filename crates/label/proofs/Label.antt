@@ -27,7 +27,8 @@ use Rattle.label.specs.declared.LabelB.{LabelB}
 use Rattle.label.specs.declared.Moment.{Moment}
 use Rattle.label.specs.Calendar.{leap, monthLength}
 use Rattle.label.specs.Time.{real, minutes}
-use Rattle.label.specs.Label.{labelAAt, labelBAt, labelAOctets, labelBOctets, dateTimeA, validA, instant, beforeA, second, millisecond, validB, inMinute, beforeB, momentOf}
+use Rattle.label.specs.Label.{labelAAt, labelBAt, labelAOctets, labelBOctets, dateTimeA, validA, instant, beforeA, second, millisecond, validB, inMinute, beforeB}
+use Rattle.label.specs.Calls.{momentOf}
 use Rattle.label.proofs.Time.{real-facts, real-but-day}
 
 -- a label that a part of octets has whole is the one that stands there

@@ -20,7 +20,8 @@ use Rattle.label.specs.declared.LabelB.{LabelB}
 use Rattle.label.specs.declared.Moment.{Moment}
 use Rattle.label.specs.Calendar.{leap, leapDay, monthLength, daysOfMonths, daysToYear, dayNumber}
 use Rattle.label.specs.Time.{real, minutes}
-use Rattle.label.specs.Label.{labelAAt, labelBAt, labelAOctets, labelBOctets, dateTimeA, validA, instant, beforeA, millisecond, second, validB, inMinute, beforeB, momentOf}
+use Rattle.label.specs.Label.{labelAAt, labelBAt, labelAOctets, labelBOctets, dateTimeA, validA, instant, beforeA, millisecond, second, validB, inMinute, beforeB}
+use Rattle.label.specs.Calls.{momentOf}
 use Rattle.label.proofs.LabelA.read.Reads as a-read
 use Rattle.label.proofs.LabelA.octets.Reads as a-octets
 use Rattle.label.proofs.LabelB.read.Reads as b-read

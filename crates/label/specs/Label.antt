@@ -14,7 +14,6 @@ use Rattle.octets.specs.Numbers.{lowFirst}
 use Rattle.label.specs.declared.DateTime.{DateTime}
 use Rattle.label.specs.declared.LabelA.{LabelA}
 use Rattle.label.specs.declared.LabelB.{LabelB}
-use Rattle.label.specs.declared.Moment.{Moment}
 use Rattle.label.specs.Time.{real, minutes, partsOf}
 
 -- the label a in the five octets from a place on, and the label b in seven; octets that are not there count as 0
@@ -83,10 +82,6 @@ beforeB l l′ =
     if beforeA (l .a) (l′ .a) then true else
     if beforeA (l′ .a) (l .a) then false else
     ltb (inMinute l) (inMinute l′)
-
--- whether a label is valid, and its instant; that of a label b is its label a's
-unfoldable pub momentOf : Bool → LabelA → Moment
-momentOf valid a = record { valid = valid; minute = instant a }
 
 -- the parts by which labels a are compared on paper
 unfoldable pub partsA : LabelA → List ℕ

@@ -1,3 +1,4 @@
 pub mod Calendar
 pub mod Time
 pub mod Label
+pub mod Calls

@@ -4,7 +4,8 @@ ghost use mathlib.Core.Bool.{true};
 ghost use Prim.Native.Nat.{_+_, _-_, _≤_, _<_};
 ghost use Rattle.label.specs.Calendar.{leap, leapDay, monthLength, daysToYear, daysOfMonths};
 ghost use Rattle.label.specs.Time.{real, minutes};
-ghost use Rattle.label.specs.Label.{labelAAt, labelBAt, labelAOctets, labelBOctets, dateTimeA, validA, instant, beforeA, second, millisecond, validB, inMinute, beforeB, momentOf};
+ghost use Rattle.label.specs.Label.{labelAAt, labelBAt, labelAOctets, labelBOctets, dateTimeA, validA, instant, beforeA, second, millisecond, validB, inMinute, beforeB};
+ghost use Rattle.label.specs.Calls.{momentOf};
 
 // A date and time: the year's last two figures, 0 to 99 for 2000 to 2099. Any five numbers are a value; not every one is a real date.
 pub struct DateTime {

@@ -10,6 +10,7 @@ use fields::IdentityFound;
 use frame::Control;
 use frame::Reply;
 use frame::Service;
+use message::Header;
 use octets::Kept;
 use rules::Session;
 use waiting::Next;
@@ -150,7 +151,7 @@ impl Link {
         if pending.is_waiting() {
             return self.noted(bit, Reply::plain(Control::Nack, address));
         }
-        if request.length < 6 {
+        if request.length < Header::OCTETS {
             return self.noted(bit, Reply::plain(Control::Nack, address));
         }
         self.carried(

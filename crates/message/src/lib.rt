@@ -210,6 +210,9 @@ impl Request {
 }
 
 impl Header {
+    // How many octets it has: a message has no fewer.
+    pub const OCTETS: u8 = 6;
+
     // The header of any octets; those that are not there count as 0.
     pub fn read(m: &[u8]) -> Header
         ensures { λ r. ⌜ r ≡ headerOf (now (m .entry)) ⌝ }

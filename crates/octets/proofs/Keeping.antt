@@ -10,7 +10,8 @@ use lib.Seq.{take-at}
 use Rattle.octets.specs.Over.{over}
 use Rattle.octets.proofs.Over.{over-after, over-first}
 use Rattle.octets.specs.declared.Kept.{Kept}
-use Rattle.octets.specs.Keeping.{octetsOf, keptOf, added}
+use Rattle.octets.specs.Keeping.{octetsOf, keptOf}
+use Rattle.octets.specs.Calls.{added}
 
 -- what fits, and what does not
 module _ (k : Kept) (top : List ℕ) where

@@ -13,9 +13,10 @@ use borrow.Author.Tests.{lt-ltb, le-leb, lt-leb}
 use Rattle.octets.specs.Numbers.{lowFirst, highFirst, lowOctets}
 use Rattle.octets.specs.Values.{signed as signedOf, unsigned as unsignedOf}
 use Rattle.octets.specs.Sum.{octetSum, checksum as checksumOf}
-use Rattle.octets.specs.Over.{over, fitsAt}
+use Rattle.octets.specs.Over.{over}
+use Rattle.octets.specs.Calls.{fitsAt, added}
 use Rattle.octets.specs.declared.Kept.{Kept}
-use Rattle.octets.specs.Keeping.{keptOf, added}
+use Rattle.octets.specs.Keeping.{keptOf}
 use Rattle.octets.proofs.Outcome.{RuledOut, RuledOutWith, Place, lent, never}
 use Rattle.octets.proofs.low_first_2.Reads as low-first-2
 use Rattle.octets.proofs.high_first_2.Reads as high-first-2

@@ -1,10 +1,8 @@
 -- Octets that are kept, a message or a text: an array of 252 and how many of it count, zeros behind them.
 -- Assumes nothing.
-use Prim.Native.Nat.{ℕ, _+_}
+use Prim.Native.Nat.{ℕ}
 use mathlib.Core.List.{List}
-use lib.Dec.{leb}
 use lib.ListN.{length, take, replicate}
-use Rattle.octets.specs.Choice.{if_then_else_}
 use Rattle.octets.specs.Over.{over}
 use Rattle.octets.specs.declared.Kept.{Kept}
 
@@ -15,9 +13,3 @@ octetsOf k = take (k .length) (k .octets)
 -- some octets, kept
 unfoldable pub keptOf : List ℕ → Kept
 keptOf octets = record { octets = over (replicate 252 0) 0 octets; length = length octets }
-
--- more octets behind those that count; what does not fit leaves all as it was
-unfoldable pub added : Kept → List ℕ → Kept
-added k top =
-    if leb (k .length + length top) 252 then record { octets = over (k .octets) (k .length) top; length = k .length + length top } else
-    k

@@ -1,5 +1,5 @@
--- A line put together: its short text part after part, and the whole of it in a lent buffer.
--- By the laws of `added` and of `over`. Assumes nothing.
+-- A line put together: its short head part after part, and the whole of it in a lent buffer.
+-- By what stands behind what, and by the laws of `over`. Assumes nothing.
 use Prim.Native.Nat.{ℕ, _+_, _*_, _≤_, _<_}
 use mathlib.Core.Bool.{Bool, true, false}
 use mathlib.Core.List.{List, [], _∷_, _++_, append-nil}
@@ -8,51 +8,47 @@ use native.Mathlib.Omega.{arith}
 use borrow.Author.Tests.{le-leb, lt-leb, leb-true, leb-false}
 use lib.Dec.{leb}
 use lib.ListN.{length, take, drop, length-append, length-take}
-use Rattle.octets.specs.Over.{over, fitsAt}
+use lib.Seq.{take-at}
+use Rattle.octets.specs.Over.{over}
+use Rattle.octets.specs.Calls.{fitsAt}
 use Rattle.octets.proofs.Choice.{told}
 use Rattle.octets.proofs.Over.{Put, over-first, over-after, over-length, put-fits}
-use Rattle.octets.specs.declared.Kept.{Kept}
-use Rattle.octets.specs.Keeping.{keptOf, octetsOf, added}
-use Rattle.octets.proofs.Keeping.{added-more, octets-back}
 use Rattle.deeds.specs.declared.Order.{Order}
 use Rattle.deeds.specs.declared.Order.the-variants.{NoOrder, SetClock, SetDates}
 use Rattle.printing.specs.Text.{decimal, pairOf, pairs}
-use Rattle.printing.specs.Line.{space, dash, newline, word, beginning, timeText, lineOf, Lined}
+use Rattle.printing.specs.Line.{space, dash, newline, word, beginning, timeText, lineOf, Behind, Lined}
 use Rattle.printing.proofs.Text.{decimal-length, pairs-length}
 
--- what is kept is a text of so many octets at most, and then one with more behind
-pub record Short (m : Kept) (text : List ℕ) (most : ℕ) : Type 0 where
-  pub is : m ≡ keptOf text
+-- what is written over a text from an index on stands behind what was before it
+pub over-behind : (under : List ℕ) (at : ℕ) (part : List ℕ) {to : ℕ} {left : List ℕ} → at + length part ≤ length under → to ≡ at + length part
+    → left ≡ over under at part → Behind under at part to left
+unfolding over
+over-behind under at part {to} fits e f =
+    let front : length (take at under ++ part) ≡ to = simp (length-append, length-take) (omega arith) in
+    record { ends = e; stands = rw f (take-at (take at under ++ part) (drop (at + length part) under) to front) }
+
+-- what is written so far is a text of so many octets at most, and then one with more behind
+pub record Short (m text : List ℕ) (most : ℕ) : Type 0 where
+  pub is : m ≡ text
   pub least : length text ≤ most
 
-none : {m : Kept} → m ≡ keptOf [] → Short m [] 0
-none e = record { is = e; least = omega arith }
-
-pub longer : {m m′ : Kept} {text : List ℕ} {n : ℕ} → Short m text n → (ys : List ℕ) (k : ℕ) → length ys ≤ k → n + k ≤ 252 → m′ ≡ added m ys
-    → Short m′ (text ++ ys) (n + k)
-longer {m} {m′} {text} {n} s ys k h room e =
-    record {
-      is = e ∙ rw (s .is) (added-more text ys (omega (arith, s .least)));
-      least = omega (arith, s .least, length-append text ys);
-    }
+longer : {m m′ text : List ℕ} {n : ℕ} → Short m text n → (ys : List ℕ) (k : ℕ) → length ys ≤ k → m′ ≡ m ++ ys → Short m′ (text ++ ys) (n + k)
+longer {text = text} s ys k h e = record { is = rw (s .is) at e; least = omega (arith, s .least, length-append text ys) }
 
 pub word-length : (order : Order) → length (word order) ≤ 5
 word-length NoOrder = omega arith
 word-length SetClock = omega arith
 word-length SetDates = omega arith
 
-pub short-octets : {m : Kept} {text : List ℕ} {n : ℕ} → Short m text n → octetsOf m ≡ text
-short-octets {m} {text} s = rw (s .is) (octets-back text)
-
-pub begun : (first second : ℕ) (order : Order) {m₀ m₁ m₂ m₃ m₄ m₅ : Kept} → m₀ ≡ keptOf [] → m₁ ≡ added m₀ (decimal first) → m₂ ≡ added m₁ space
-    → m₃ ≡ added m₂ (decimal second) → m₄ ≡ added m₃ space → m₅ ≡ added m₄ (word order) → Short m₅ (beginning first second order) 47
+pub begun : (first second : ℕ) (order : Order) {m₁ m₂ m₃ m₄ m₅ : List ℕ} → m₁ ≡ decimal first → m₂ ≡ m₁ ++ space
+    → m₃ ≡ m₂ ++ decimal second → m₄ ≡ m₃ ++ space → m₅ ≡ m₄ ++ word order → Short m₅ (beginning first second order) 47
 unfolding beginning
-begun first second order e₀ e₁ e₂ e₃ e₄ e₅ =
-    let s₁ = longer (none e₀) (decimal first) 20 (decimal-length first) (omega arith) e₁ in
-    let s₂ = longer s₁ space 1 (omega arith) (omega arith) e₂ in
-    let s₃ = longer s₂ (decimal second) 20 (decimal-length second) (omega arith) e₃ in
-    let s₄ = longer s₃ space 1 (omega arith) (omega arith) e₄ in
-    longer s₄ (word order) 5 (word-length order) (omega arith) e₅
+begun first second order e₁ e₂ e₃ e₄ e₅ =
+    let s₁ : Short _ (decimal first) 20 = record { is = e₁; least = decimal-length first } in
+    let s₂ = longer s₁ space 1 (omega arith) e₂ in
+    let s₃ = longer s₂ (decimal second) 20 (decimal-length second) e₃ in
+    let s₄ = longer s₃ space 1 (omega arith) e₄ in
+    longer s₄ (word order) 5 (word-length order) e₅
 
 -- two parts, and three, one after the other
 pub put-two : (under before : List ℕ) (octet at : ℕ) {two out out′ : List ℕ} {done done′ : Bool} → at + (length before + 2) ≤ length under
@@ -140,20 +136,8 @@ module _ (under text before octets : List ℕ) {r : Bool} (found : r ≡ leb (le
       lined-not _ _ (omega (arith, h, whole-length, pairs-length before octets))
 
 -- the two lines of the printing program
-beginning-length : (first second : ℕ) (order : Order) → length (beginning first second order) ≤ 47
-unfolding beginning
-beginning-length first second order =
-    simp length-append (omega (arith, decimal-length first, decimal-length second, word-length order))
-
-pub short-begun : (first second : ℕ) (order : Order) {m : Kept} → m ≡ keptOf (beginning first second order) → Short m (beginning first second order) 47
-short-begun first second order e = record { is = e; least = beginning-length first second order }
-
-pub short-room : {m : Kept} {text : List ℕ} {n : ℕ} → Short m text n → n ≤ 252 → length (octetsOf m) ≤ 252
-short-room s h = rw (short-octets s) (omega (arith, s .least))
-
-pub short-none : (first second : ℕ) (order : Order) {m m′ : Kept} → m ≡ keptOf (beginning first second order) → m′ ≡ added m (space ++ dash)
-    → Short m′ (beginning first second order ++ (space ++ dash)) 49
-short-none first second order e f = longer (short-begun first second order e) (space ++ dash) 2 (omega arith) (omega arith) f
+pub beginning-length : (first second : ℕ) (order : Order) → length (beginning first second order) ≤ 47
+beginning-length first second order = begun first second order refl refl refl refl refl .least
 
 pub line-none : (number result : ℕ) (order : Order) (reply : List ℕ) → length reply ≡ 0
     → beginning number result order ++ (space ++ dash) ++ pairs [] reply ++ newline ≡ lineOf number result order reply
@@ -168,17 +152,30 @@ line-some number result order [] h = absurd (h refl)
 line-some number result order (octet ∷ reply) h = refl
 
 -- the line of the driving program
-time-length : (order : Order) (time : List ℕ) → length (timeText order time) ≤ 20
-time-length NoOrder time = omega arith
-time-length SetClock time = omega (arith, pairs-length [] (take 7 time), length-take 7 time)
-time-length SetDates time = omega (arith, pairs-length [] (take 10 time), length-take 10 time)
+few-pairs : (k : ℕ) (time : List ℕ) → k ≤ 10 → length (pairs [] (take k time)) ≤ 20
+few-pairs k time few = omega (arith, pairs-length [] (take k time), length-take k time)
 
-pub short-gap : (number count : ℕ) (order : Order) (time : List ℕ) (damaged : ℕ) {m₀ m₁ m₂ m₃ m₄ m₅ : Kept} → m₀ ≡ keptOf (beginning number count order)
-    → m₁ ≡ added m₀ space → m₂ ≡ added m₁ (timeText order time) → m₃ ≡ added m₂ space → m₄ ≡ added m₃ (decimal damaged) → m₅ ≡ added m₄ space
+pub time-length : (order : Order) (time : List ℕ) → length (timeText order time) ≤ 20
+time-length NoOrder time = omega arith
+time-length SetClock time = few-pairs 7 time (omega arith)
+time-length SetDates time = few-pairs 10 time (omega arith)
+
+-- the pairs of an order's first octets have room, and stand where they are put
+module _ (under time : List ℕ) (at k : ℕ) (few : k ≤ 10) {some : List ℕ} (part : some ≡ take k time) (room : at + 20 ≤ length under) where
+  pub time-pairs-room : at + length (pairs [] some) ≤ length under
+  time-pairs-room = rw part (omega (arith, few-pairs k time few))
+
+  pub time-pairs-behind : {to : ℕ} {left : List ℕ} → (to ≡ at + length (pairs [] some)) × (left ≡ over under at (pairs [] some))
+      → Behind under at (pairs [] (take k time)) to left
+  time-pairs-behind p = rw part at (over-behind under at (pairs [] some) time-pairs-room (p .0) (p .1))
+
+pub short-gap : (number count : ℕ) (order : Order) (time : List ℕ) (damaged : ℕ) {m₀ m₁ m₂ m₃ m₄ m₅ : List ℕ} → m₀ ≡ beginning number count order
+    → m₁ ≡ m₀ ++ space → m₂ ≡ m₁ ++ timeText order time → m₃ ≡ m₂ ++ space → m₄ ≡ m₃ ++ decimal damaged → m₅ ≡ m₄ ++ space
     → Short m₅ (beginning number count order ++ space ++ timeText order time ++ space ++ decimal damaged ++ space) 90
 short-gap number count order time damaged e₀ e₁ e₂ e₃ e₄ e₅ =
-    let s₁ = longer (short-begun number count order e₀) space 1 (omega arith) (omega arith) e₁ in
-    let s₂ = longer s₁ (timeText order time) 20 (time-length order time) (omega arith) e₂ in
-    let s₃ = longer s₂ space 1 (omega arith) (omega arith) e₃ in
-    let s₄ = longer s₃ (decimal damaged) 20 (decimal-length damaged) (omega arith) e₄ in
-    longer s₄ space 1 (omega arith) (omega arith) e₅
+    let s₀ : Short _ (beginning number count order) 47 = record { is = e₀; least = beginning-length number count order } in
+    let s₁ = longer s₀ space 1 (omega arith) e₁ in
+    let s₂ = longer s₁ (timeText order time) 20 (time-length order time) e₂ in
+    let s₃ = longer s₂ space 1 (omega arith) e₃ in
+    let s₄ = longer s₃ (decimal damaged) 20 (decimal-length damaged) e₄ in
+    longer s₄ space 1 (omega arith) e₅

@@ -9,12 +9,12 @@ use native.Mathlib.Omega.{arith}
 use borrow.Author.Tests.{lt-ltb, ltb-true, ltb-false}
 use lib.Arith.{digits-lt}
 use lib.Dec.{ltb}
-use lib.ListN.{length, take, getD, replicate, length-append, length-replicate, drop-of-length-le}
-use lib.Seq.{take-suc, take-nil}
+use lib.ListN.{length, take, getD, length-append}
+use lib.Seq.{take-suc}
 use Rattle.io.specs.Digits.{digits, Fewest}
 use Rattle.octets.specs.Over.{over}
 use Rattle.octets.proofs.Choice.{either}
-use Rattle.octets.proofs.Over.{over-none, over-after, over-first}
+use Rattle.octets.proofs.Over.{over-none, over-after}
 use Rattle.printing.specs.Text.{figures, decimal, pairOf, pairs}
 
 -- no more figures than places
@@ -125,20 +125,6 @@ pairs-none under before xs at = over-none under at xs
 pub pairs-start : (before xs : List ℕ) (at : ℕ) → at ≡ at + length (pairs before (take 0 xs))
 unfolding pairs
 pairs-start before xs at = omega arith
-
--- pairs without anything between: of the first octets, and into a space of their own
-pub pairs-first : (k : ℕ) (xs : List ℕ) → take (k * 2) (pairs [] xs) ≡ pairs [] (take k xs)
-unfolding pairs pairOf
-pairs-first zero xs = refl
-pairs-first (suc k) [] = take-nil (suc k * 2)
-pairs-first (suc k) (octet ∷ xs) =
-    let twice : suc k * 2 ≡ suc (suc (k * 2)) = omega arith in
-    rw (twice, pairs-first k xs)
-
-pub pairs-fill : (n : ℕ) (top : List ℕ) → length top ≡ n → over (replicate n 0) 0 top ≡ top
-pairs-fill n top e =
-    let past : length (replicate {A = ℕ} n 0) ≤ length top = omega (arith, length-replicate {A = ℕ} n 0) in
-    over-first (replicate n 0) top ∙ rw (drop-of-length-le (replicate n 0) past) (append-nil top)
 
 -- whether so many of a width fit
 pub too-many : (room width many : ℕ) → 0 < width → room / width < many → room < many * width

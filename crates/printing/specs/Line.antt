@@ -1,13 +1,14 @@
 -- The lines that the programs write, and what writing one into a lent buffer answers and leaves.
 -- Assumes nothing.
-use Prim.Native.Nat.{ℕ}
+use Prim.Native.Nat.{ℕ, _+_}
 use mathlib.Core.List.{List, [], _∷_, _++_}
+use mathlib.Core.Path.{_≡_}
 use lib.ListN.{length, take}
 use Rattle.octets.specs.Choice.{if_then_else_}
-use Rattle.octets.specs.Over.{fitsAt, laidIn, Does}
+use Rattle.octets.specs.Over.{laidIn, Does}
+use Rattle.octets.specs.Calls.{fitsAt}
 use Rattle.deeds.specs.declared.Order.{Order}
 use Rattle.deeds.specs.declared.Order.the-variants.{NoOrder, SetClock, SetDates}
-use Rattle.deeds.specs.Deeds.{timeOctets}
 use Rattle.printing.specs.Text.{decimal, pairs}
 
 -- what stands between, what stands for nothing, what ends a line
@@ -46,8 +47,8 @@ lineOf number result order reply = beginning number result order ++ replyText re
 -- the octets of an order: of ten the first 7 for the clock and all for the dates, or -
 abbrev pub timeText : Order → List ℕ → List ℕ
 timeText NoOrder time = dash
-timeText SetClock time = pairs [] (take (timeOctets SetClock) time)
-timeText SetDates time = pairs [] (take (timeOctets SetDates) time)
+timeText SetClock time = pairs [] (take 7 time)
+timeText SetDates time = pairs [] (take 10 time)
 
 -- the driving program's line: number, length, order, the order's octets, the count of damaged runs, the buffer
 unfoldable pub gapLine : ℕ → ℕ → Order → List ℕ → ℕ → List ℕ → List ℕ
@@ -61,3 +62,8 @@ fitting under text = if fitsAt under 0 text then text else []
 -- `Lined under text count left`: what fits stands in the first octets of the buffer, the rest unchanged, and its length is answered
 abbrev pub Lined : List ℕ → List ℕ → ℕ → List ℕ → Type 0
 Lined under text count left = Does (length (fitting under text)) (laidIn under (fitting under text)) count left
+
+-- `Behind under at part to left`, of a text that is being written: a part stands behind its first `at` octets and ends at `to`; the rest is left open
+pub record Behind (under : List ℕ) (at : ℕ) (part : List ℕ) (to : ℕ) (left : List ℕ) : Type 0 where
+  pub ends : to ≡ at + length part
+  pub stands : take to left ≡ take at under ++ part

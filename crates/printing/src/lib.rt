@@ -5,11 +5,9 @@ ghost use mathlib.Core.Path.{_≡_};
 ghost use lib.Dec.{leb};
 ghost use lib.ListN.{length};
 ghost use Rattle.octets.specs.Over.{over};
-ghost use Rattle.octets.specs.Keeping.{keptOf, octetsOf, added};
 ghost use Rattle.printing.specs.Text.{decimal, hexFigure, pairOf, pairs};
-ghost use Rattle.printing.specs.Line.{word, beginning, newline, timeText, lineOf, gapLine, Lined};
+ghost use Rattle.printing.specs.Line.{word, beginning, newline, timeText, lineOf, gapLine, Behind, Lined};
 use deeds::Order;
-use octets::Kept;
 
 fn hex_figure(n: u8) -> u8
     requires { ⌜ n < 16 ⌝ }
@@ -53,49 +51,56 @@ fn put_pairs(out: &mut [u8], at: usize, before: &[u8], octets: &[u8]) -> usize
     to
 }
 
-// A line's text is kept while it is short: all of it but the last octets in hex.
-fn with_number(text: Kept, n: u64) -> Kept
-    ensures { λ r. ⌜ r ≡ added text (decimal n) ⌝ }
+// The head of a line is all of it but the last octets in hex. It is short, and is written into an array of its own, because only its length tells
+// whether the line fits. Writes a part of it behind so many octets, and answers where the part ends.
+fn put_part(text: &mut [u8], at: usize, part: &[u8]) -> usize
+    requires { ⌜ at + length (now part) ≤ length (now text) ⌝ }
+    ensures { λ r. ⌜ Behind (now (text .entry)) at (now (part .entry)) r (now (text .exit)) ⌝ }
+{
+    octets::put(text, at, part);
+    at + part.len()
+}
+
+fn put_number(text: &mut [u8], at: usize, n: u64) -> usize
+    requires { ⌜ at + 20 ≤ length (now text) ⌝ }
+    ensures { λ r. ⌜ Behind (now (text .entry)) at (decimal n) r (now (text .exit)) ⌝ }
 {
     let mut figures = [0u8; 20];
     let count = io::decimal(n, &mut figures);
-    text.with(&figures[..count])
+    put_part(text, at, &figures[..count])
 }
 
-fn with_word(text: Kept, order: Order) -> Kept
-    ensures { λ r. ⌜ r ≡ added text (word order) ⌝ }
+fn put_word(text: &mut [u8], at: usize, order: Order) -> usize
+    requires { ⌜ at + 5 ≤ length (now text) ⌝ }
+    ensures { λ r. ⌜ Behind (now (text .entry)) at (word order) r (now (text .exit)) ⌝ }
 {
     match order {
-        Order::NoOrder => text.with(b"-"),
-        Order::SetClock => text.with(b"clock"),
-        Order::SetDates => text.with(b"dates"),
+        Order::NoOrder => put_part(text, at, b"-"),
+        Order::SetClock => put_part(text, at, b"clock"),
+        Order::SetDates => put_part(text, at, b"dates"),
     }
 }
 
-fn begin(first: u64, second: u64, order: Order) -> Kept
-    ensures { λ r. ⌜ r ≡ keptOf (beginning first second order) ⌝ }
+fn put_time(text: &mut [u8], at: usize, order: Order, time: [u8; 10]) -> usize
+    requires { ⌜ at + 20 ≤ length (now text) ⌝ }
+    ensures { λ r. ⌜ Behind (now (text .entry)) at (timeText order time) r (now (text .exit)) ⌝ }
 {
-    let numbers = with_number(with_number(Kept::new(), first).with(b" "), second);
-    with_word(numbers.with(b" "), order)
-}
-
-fn time_pairs(time: [u8; 10]) -> [u8; 20]
-    ensures { λ r. ⌜ r ≡ pairs [] time ⌝ }
-{
-    let mut text = [0; 20];
-    put_pairs(&mut text, 0, b"", &time);
-    text
-}
-
-fn with_time(text: Kept, order: Order, time: [u8; 10]) -> Kept
-    ensures { λ r. ⌜ r ≡ added text (timeText order time) ⌝ }
-{
-    let hex = time_pairs(time);
     match order {
-        Order::NoOrder => text.with(b"-"),
-        Order::SetClock => text.with(octets::part(&hex, 0, 14)),
-        Order::SetDates => text.with(octets::part(&hex, 0, 20)),
+        Order::NoOrder => put_part(text, at, b"-"),
+        Order::SetClock => put_pairs(text, at, b"", octets::part(&time, 0, 7)),
+        Order::SetDates => put_pairs(text, at, b"", octets::part(&time, 0, 10)),
     }
+}
+
+fn begin(text: &mut [u8], first: u64, second: u64, order: Order) -> usize
+    requires { ⌜ 47 ≤ length (now text) ⌝ }
+    ensures { λ r. ⌜ Behind (now (text .entry)) 0 (beginning first second order) r (now (text .exit)) ⌝ }
+{
+    let mut end = put_number(text, 0, first);
+    end = put_part(text, end, b" ");
+    end = put_number(text, end, second);
+    end = put_part(text, end, b" ");
+    put_word(text, end, order)
 }
 
 // Whether `many` times `width` octets and `rest` more fit.
@@ -140,11 +145,13 @@ pub fn put_text(out: &mut [u8], text: &[u8]) -> usize
 pub fn line(out: &mut [u8], number: u64, result: u8, order: Order, reply: &[u8]) -> usize
     ensures { λ r. ⌜ Lined (now (out .entry)) (lineOf number result order (now (reply .entry))) r (now (out .exit)) ⌝ }
 {
-    let text = begin(number, result as u64, order);
+    let mut text = [0u8; 64];
+    let mut end = begin(&mut text, number, result as u64, order);
     if reply.len() == 0 {
-        return laid(out, text.with(b" -"), b"", reply);
+        end = put_part(&mut text, end, b" -");
+        return lay(out, octets::part(&text, 0, end), b"", reply);
     }
-    laid(out, text, b" ", reply)
+    lay(out, octets::part(&text, 0, end), b" ", reply)
 }
 
 // Writes the line of a gap of the driving program.
@@ -159,21 +166,12 @@ pub fn gap_line(
 ) -> usize
     ensures { λ r. ⌜ Lined (now (out .entry)) (gapLine number length order time damaged (now (buffer .entry))) r (now (out .exit)) ⌝ }
 {
-    let first = begin(number as u64, length as u64, order);
-    let timed = with_time(first.with(b" "), order, time);
-    let text = with_number(timed.with(b" "), damaged as u64);
-    laid(out, text.with(b" "), b"", buffer)
-}
-
-fn laid(out: &mut [u8], text: Kept, before: &[u8], octets: &[u8]) -> usize
-    requires { ⌜ (length (octetsOf text) ≤ 252) × (length (now before) ≤ 1) ⌝ }
-    ensures { λ r. ⌜ Lined (now (out .entry)) (octetsOf text ++ pairs (now (before .entry)) (now (octets .entry)) ++ newline) r (now (out .exit)) ⌝ }
-{
-    let kept = text.octets;
-    lay(
-        out,
-        octets::part(&kept, 0, text.length as usize),
-        before,
-        octets,
-    )
+    let mut text = [0u8; 96];
+    let mut end = begin(&mut text, number as u64, length as u64, order);
+    end = put_part(&mut text, end, b" ");
+    end = put_time(&mut text, end, order, time);
+    end = put_part(&mut text, end, b" ");
+    end = put_number(&mut text, end, damaged as u64);
+    end = put_part(&mut text, end, b" ");
+    lay(out, octets::part(&text, 0, end), b"", buffer)
 }

@@ -1,96 +1,61 @@
--- What a test says of each rule it says of any; P/N 1 comes with cause 7 only; and what a message does by a rule, in three cases.
--- The rules one by one, once for all tests and once for what they do. Assumes nothing.
-use Prim.Native.Nat.{_%_}
-use mathlib.Core.Bool.{Bool, true, not, _||_}
-use mathlib.Core.List.{List, [], _∷_, map}
+-- What a rule rules, in four cases: the cause of its mirror, its P/N, and what a message does by it; so P/N 1 comes with cause 7 only.
+-- The rules one by one, once for all that is said of them. Assumes nothing.
+use Prim.Native.Nat.{ℕ, _%_}
+use mathlib.Core.Bool.{Bool, true, false, false≢true}
 use mathlib.Core.Path.{_≡_, refl}
-use borrow.Author.Tests.{eqb-true}
-use lib.Dec.{eqb}
-use Rattle.octets.specs.Conditions.{holds}
-use Rattle.octets.proofs.Conditions.{holds-at}
+use native.Mathlib.Omega.{arith}
+use borrow.Author.Tests.{ltb-true}
+use lib.Dec.{ltb}
 use Rattle.rules.specs.declared.Rule.{Rule}
 use Rattle.rules.specs.declared.Rule.the-variants.{Marked, UnknownType, NoSession, UnknownPoint, OtherSession, Shape, Address, Objects, ReadingLabel, ReadingRange, NoReading, EventLabel, EventRange, NoEvent, ClockUnset, NoDates, TimeLabel, WrongPassword, Accepted}
 use Rattle.message.specs.declared.Deed.{Deed}
 use Rattle.message.specs.declared.Deed.the-variants.{Refused, ShutOut}
-use Rattle.rules.specs.Rules.{causeBy, pnBy, deedBy}
+use Rattle.rules.specs.Rules.{ruling, causeBy, pnBy}
 
--- the rules in document 01's order
-abbrev pub everyRule : List Rule
-everyRule =
-    Marked
-    ∷ UnknownType
-    ∷ NoSession
-    ∷ UnknownPoint
-    ∷ OtherSession
-    ∷ Shape
-    ∷ Address
-    ∷ Objects
-    ∷ ReadingLabel
-    ∷ ReadingRange
-    ∷ NoReading
-    ∷ EventLabel
-    ∷ EventRange
-    ∷ NoEvent
-    ∷ ClockUnset
-    ∷ NoDates
-    ∷ TimeLabel
-    ∷ WrongPassword
-    ∷ Accepted
-    ∷ []
+-- accepted, a message does what its row says; by a wrong password it is shut out; by any other rule it is refused, by a wrong time with P/N 1; a cause
+-- has six bits
+pub data Ruled (its : Deed) : Rule → ℕ × Bool × Deed → Type 0 where
+  accepts : Ruled its Accepted (7, false, its)
+  shuts-out : Ruled its WrongPassword (7, true, ShutOut)
+  wrong-time : Ruled its TimeLabel (7, true, Refused)
+  refuses : {rule : Rule} {cause : ℕ} → ltb cause 64 ≡ true → Ruled its rule (cause, false, Refused)
 
-pub each-rule : (test : Rule → Bool) → holds (map test everyRule) ≡ true → (rule : Rule) → test rule ≡ true
-each-rule test h Marked = holds-at (map test everyRule) h 0
-each-rule test h UnknownType = holds-at (map test everyRule) h 1
-each-rule test h NoSession = holds-at (map test everyRule) h 2
-each-rule test h UnknownPoint = holds-at (map test everyRule) h 3
-each-rule test h OtherSession = holds-at (map test everyRule) h 4
-each-rule test h Shape = holds-at (map test everyRule) h 5
-each-rule test h Address = holds-at (map test everyRule) h 6
-each-rule test h Objects = holds-at (map test everyRule) h 7
-each-rule test h ReadingLabel = holds-at (map test everyRule) h 8
-each-rule test h ReadingRange = holds-at (map test everyRule) h 9
-each-rule test h NoReading = holds-at (map test everyRule) h 10
-each-rule test h EventLabel = holds-at (map test everyRule) h 11
-each-rule test h EventRange = holds-at (map test everyRule) h 12
-each-rule test h NoEvent = holds-at (map test everyRule) h 13
-each-rule test h ClockUnset = holds-at (map test everyRule) h 14
-each-rule test h NoDates = holds-at (map test everyRule) h 15
-each-rule test h TimeLabel = holds-at (map test everyRule) h 16
-each-rule test h WrongPassword = holds-at (map test everyRule) h 17
-each-rule test h Accepted = holds-at (map test everyRule) h 18
+pub ruled : (rule : Rule) (its : Deed) → Ruled its rule (ruling rule its)
+ruled Marked its = refuses refl
+ruled UnknownType its = refuses refl
+ruled NoSession its = refuses refl
+ruled UnknownPoint its = refuses refl
+ruled OtherSession its = refuses refl
+ruled Shape its = refuses refl
+ruled Address its = refuses refl
+ruled Objects its = refuses refl
+ruled ReadingLabel its = refuses refl
+ruled ReadingRange its = refuses refl
+ruled NoReading its = refuses refl
+ruled EventLabel its = refuses refl
+ruled EventRange its = refuses refl
+ruled NoEvent its = refuses refl
+ruled ClockUnset its = refuses refl
+ruled NoDates its = refuses refl
+ruled TimeLabel its = wrong-time
+ruled WrongPassword its = shuts-out
+ruled Accepted its = accepts
 
 pub only-seven : (rule : Rule) → pnBy rule ≡ true → causeBy rule ≡ 7
-unfolding holds
-only-seven rule e = eqb-true _ _ (rw e at (each-rule (λ r. not (pnBy r) || eqb (causeBy r) 7) refl rule))
+only-seven rule = of-ruled (ruled rule Refused)
+  where
+    of-ruled : {rule : Rule} {said : ℕ × Bool × Deed} → Ruled Refused rule said → said .1 ≡ true → said .0 ≡ 7
+    of-ruled accepts e = refl
+    of-ruled shuts-out e = refl
+    of-ruled wrong-time e = refl
+    of-ruled (refuses small) e = absurd (false≢true e)
 
 -- a mirror's cause has six bits
 pub cause-small : (rule : Rule) → causeBy rule % 64 ≡ causeBy rule
-unfolding holds
-cause-small rule = eqb-true _ _ (each-rule (λ r. eqb (causeBy r % 64) (causeBy r)) refl rule)
-
--- accepted, a message does what its row says; by a wrong password it is shut out; by any other rule it is refused
-pub data Ruled (its : Deed) : Rule → Deed → Type 0 where
-  accepts : Ruled its Accepted its
-  shuts-out : Ruled its WrongPassword ShutOut
-  refuses : {rule : Rule} → Ruled its rule Refused
-
-pub ruled : (rule : Rule) (its : Deed) → Ruled its rule (deedBy rule its)
-ruled Marked its = refuses
-ruled UnknownType its = refuses
-ruled NoSession its = refuses
-ruled UnknownPoint its = refuses
-ruled OtherSession its = refuses
-ruled Shape its = refuses
-ruled Address its = refuses
-ruled Objects its = refuses
-ruled ReadingLabel its = refuses
-ruled ReadingRange its = refuses
-ruled NoReading its = refuses
-ruled EventLabel its = refuses
-ruled EventRange its = refuses
-ruled NoEvent its = refuses
-ruled ClockUnset its = refuses
-ruled NoDates its = refuses
-ruled TimeLabel its = refuses
-ruled WrongPassword its = shuts-out
-ruled Accepted its = accepts
+cause-small rule = of-ruled (ruled rule Refused)
+  where
+    of-ruled : {rule : Rule} {said : ℕ × Bool × Deed} → Ruled Refused rule said → said .0 % 64 ≡ said .0
+    of-ruled accepts = refl
+    of-ruled shuts-out = refl
+    of-ruled wrong-time = refl
+    of-ruled (refuses small) = omega (arith, ltb-true)

@@ -13,7 +13,8 @@ use Rattle.records.proofs.Places.{as-many-places}
 use Rattle.fields.specs.Answers.{recordsOf}
 use Rattle.choice.specs.declared.Query.{Query}
 use Rattle.choice.specs.declared.Found.the-variants.{At, Nothing}
-use Rattle.choice.specs.Choice.{chosen, choice, placesFrom, nthPlace}
+use Rattle.choice.specs.Choice.{chosen, choice}
+use Rattle.choice.specs.Calls.{placesFrom, nthPlace}
 use Rattle.choice.proofs.Laws.{found-there, nothing-nth}
 use Rattle.rules.specs.Decide.{noneIn}
 

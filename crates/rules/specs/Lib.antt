@@ -1,2 +1,3 @@
 pub mod Rules
 pub mod Decide
+pub mod Calls

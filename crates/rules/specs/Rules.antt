@@ -2,11 +2,8 @@
 -- Assumes nothing.
 use Prim.Native.Nat.{ℕ}
 use mathlib.Core.Bool.{Bool, true, false}
-use mathlib.Core.List.{[], _∷_}
-use Rattle.octets.specs.Answer.{Answer}
 use Rattle.message.specs.declared.Deed.{Deed}
 use Rattle.message.specs.declared.Deed.the-variants.{Refused, ShutOut}
-use Rattle.message.specs.Mirror.{pnBit}
 use Rattle.rules.specs.declared.Rule.{Rule}
 use Rattle.rules.specs.declared.Rule.the-variants.{Marked, UnknownType, NoSession, UnknownPoint, OtherSession, Shape, Address, Objects, ReadingLabel, ReadingRange, NoReading, EventLabel, EventRange, NoEvent, ClockUnset, NoDates, TimeLabel, WrongPassword, Accepted}
 
@@ -41,7 +38,3 @@ pnBy rule = ruling rule Refused .1
 
 abbrev pub deedBy : Rule → Deed → Deed
 deedBy rule its = ruling rule its .2
-
--- the paper's number and value of a rule: its cause, and its P/N
-abbrev pub ruleSays : Rule → Answer
-ruleSays rule = record { number = causeBy rule; values = pnBit (pnBy rule) ∷ [] }

@@ -1,3 +1,4 @@
 pub mod Filling
+pub mod Adding
 mod Determined
 mod RuledOut

@@ -1,19 +1,27 @@
 -- What the public contracts of this crate do not allow: two wrong outcomes or more of each.
 -- By computation, and by the lengths of what is seen; of reading, whatever the world outside gives. Assumes nothing.
 use Prim.Native.Nat.{ℕ, _+_, _<_}
-use mathlib.Core.Bool.{true}
+use mathlib.Core.Bool.{Bool, true, false, true≢false}
 use mathlib.Core.List.{List, [], _∷_}
-use mathlib.Core.Path.{_≡_, sym, ap, _∙_}
+use mathlib.Core.Path.{_≡_, refl, sym, ap, _∙_}
 use native.Mathlib.Omega.{arith}
 use contract.Lifetimes.{Lfts}
 use denote.Ref.{now}
 use lib.ListN.{length, drop, length-take}
+use Rattle.octets.specs.Over.{over}
+use Rattle.octets.specs.Calls.{fitsAt}
 use Rattle.octets.proofs.Outcome.{RuledOut, RuledOutWith, Place, lent}
 use Rattle.stream.specs.declared.Window.{Window}
+use Rattle.stream.specs.declared.Texts.{Texts}
 use Rattle.stream.specs.Window.{countOf, seenIn, hasIn}
 use Rattle.stream.proofs.seen.Reads as seen
 use Rattle.stream.proofs.taken.Reads as taken
 use Rattle.stream.proofs.filled.Reads as filled
+use Rattle.stream.proofs.out.Reads as out
+use Rattle.stream.proofs.tell.Reads as tell
+
+abbrev waiting : ℕ → Bool → Texts
+waiting count going = record { count = count; going = going }
 
 abbrev window : ℕ → ℕ → Window
 window from to = record { from = from; to = to }
@@ -87,3 +95,40 @@ module _ (κs : Lfts 1) (x : Place) (space : List ℕ) (w r : Window) (size : �
     filled-changed : (left : List ℕ) → (left ≡ space → ⊥)
         → RuledOutWith (λ s. now (s .0)) (filled.Post κs) (lent x space, (w, (size, tt))) r left
     filled-changed left other s e p = other (sym e ∙ p .unchanged enough)
+
+-- what waits, written
+module _ (κs : Lfts 1) (x : Place) (block : List ℕ) (texts : Texts) (going : Bool) where
+  -- what waited still waiting
+  out-waiting : 0 < texts .count → RuledOut (out.Post κs) (lent x block, (texts, tt)) (waiting (texts .count) going)
+  out-waiting some s p = omega arith
+
+  -- one octet still waiting
+  out-one : RuledOut (out.Post κs) (lent x block, (texts, tt)) (waiting 1 going)
+  out-one s p = omega arith
+
+-- a text of one octet more in a block of two
+module _ (κs : Lfts 2) (x y : Place) (a b c : ℕ) (going : Bool) where
+  -- a text that fits, dropped
+  tell-dropped : RuledOut (tell.Post κs) (lent x (a ∷ b ∷ []), (waiting 1 going, (lent y (c ∷ []), (true, tt)))) (waiting 1 going)
+  unfolding fitsAt
+  tell-dropped s p = omega (arith, ap (λ (r : Texts). r .count) (p .goes-on refl .count-behind refl))
+
+  -- a text written over one that waits, whenever they differ
+  tell-over : (a ≡ c → ⊥)
+      → RuledOutWith (λ s. now (s .0)) (tell.Post κs) (lent x (a ∷ b ∷ []), (waiting 1 going, (lent y (c ∷ []), (true, tt)))) (waiting 2 going) (c ∷ b ∷ [])
+  unfolding fitsAt over
+  tell-over n s e p = n (cc (p .goes-on refl .left-behind refl))
+
+  -- a text that does not fit behind the others, dropped
+  tell-lost : RuledOut (tell.Post κs) (lent x (a ∷ b ∷ []), (waiting 2 going, (lent y (c ∷ []), (true, tt)))) (waiting 0 going)
+  unfolding fitsAt
+  tell-lost s p = omega (arith, p .goes-on refl .else-first refl .count)
+
+  -- a text longer than the block, and more to go out behind it
+  tell-long : RuledOut (tell.Post κs) (lent x [], (waiting 0 going, (lent y (c ∷ []), (true, tt)))) (waiting 0 true)
+  unfolding fitsAt
+  tell-long s p = true≢false (p .goes-on refl .else-first refl .refused refl)
+
+  -- the last text still waiting
+  tell-last : RuledOut (tell.Post κs) (lent x (a ∷ b ∷ []), (waiting 1 going, (lent y (c ∷ []), (false, tt)))) (waiting 2 going)
+  tell-last s p = omega (arith, ap (λ (r : Texts). r .count) (p .ends refl))

@@ -1,9 +1,11 @@
-// Octets from standard input by the block, and text to standard output. One read brings what is there, which may be many runs; none is
-// made while enough octets stand in the window, and none waits for more than is asked for.
+// Octets from standard input and text to standard output, both by the block. One read brings what is there, which may be many runs; none is
+// made while enough octets stand in the window, and none waits for more than is asked for. Texts wait in a block until it is full, or until
+// the program is about to read.
 ghost use Prim.Native.Nat.{_+_, _-_, _≤_};
 ghost use mathlib.Core.Path.{_≡_};
 ghost use lib.ListN.{length, take, drop};
 ghost use Rattle.octets.specs.Over.{over};
+ghost use Rattle.stream.specs.Texts.{AddedFirst, Added, Told};
 ghost use Rattle.stream.specs.Window.{countOf, seenIn, takenOf, hasIn, Kept, Filled};
 
 // What has been read and not taken yet: the octets of a space from one index to another.
@@ -118,10 +120,77 @@ pub fn filled(space: &mut [u8], window: Window, size: usize) -> Window
     }
 }
 
+// Texts that wait to be written: how many octets of a block they have, and whether everything before them could be written.
+pub struct Texts {
+    pub count: usize,
+    pub going: bool,
+}
+
 // Writes a text to standard output, and answers whether it could. Nothing can be promised: the contract of `io::write_all` says nothing of
 // what is written, since no contract speaks of the world outside, and whether it could be written is the world's answer.
-pub fn say(text: &[u8]) -> bool
+fn say(text: &[u8]) -> bool
     ensures { λ _. ⊤ₛ }
 {
     io::write_all(1, text)
+}
+
+// What waits is written, and nothing waits. Whether it could be written is the world's answer.
+pub fn out(block: &[u8], texts: Texts) -> Texts
+    ensures { λ r. ⌜ r .count ≡ 0 ⌝ }
+{
+    if say(octets::part(block, 0, texts.count)) {
+        return Texts {
+            count: 0,
+            going: texts.going,
+        };
+    }
+    Texts {
+        count: 0,
+        going: false,
+    }
+}
+
+// What waits is written, and a text is the first that waits. One that is longer than the block is refused.
+fn add_first(block: &mut [u8], texts: Texts, text: &[u8]) -> Texts
+    ensures { λ r. ⌜ AddedFirst (now (block .entry)) (now (text .entry)) r (now (block .exit)) ⌝ }
+{
+    let before = out(block, texts);
+    if octets::put(block, 0, text) {
+        return Texts {
+            count: text.len(),
+            going: before.going,
+        };
+    }
+    Texts {
+        count: 0,
+        going: false,
+    }
+}
+
+// One text more waits; where it does not fit behind the others, they are written first.
+fn add(block: &mut [u8], texts: Texts, text: &[u8]) -> Texts
+    ensures { λ r. ⌜ Added (now (block .entry)) texts (now (text .entry)) r (now (block .exit)) ⌝ }
+{
+    if octets::put(block, texts.count, text) {
+        return Texts {
+            count: texts.count + text.len(),
+            going: texts.going,
+        };
+    }
+    add_first(block, texts, text)
+}
+
+// One text more waits, and where no other follows all is written and nothing goes on.
+pub fn tell(block: &mut [u8], texts: Texts, text: &[u8], more: bool) -> Texts
+    ensures { λ r. ⌜ Told (now (block .entry)) texts (now (text .entry)) more r (now (block .exit)) ⌝ }
+{
+    let next = add(block, texts, text);
+    if more {
+        return next;
+    }
+    out(block, next);
+    Texts {
+        count: 0,
+        going: false,
+    }
 }

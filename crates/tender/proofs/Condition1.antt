@@ -20,8 +20,7 @@ use Rattle.frame.specs.declared.Service.the-variants.{Reset, UserData, Status, 
 use Rattle.frame.specs.declared.Asked.{Asked}
 use Rattle.frame.specs.declared.Asked.the-variants.{Is, NotOffered}
 use Rattle.frame.specs.Family.{sapr}
-use Rattle.frame.specs.Frame.{Frame, fixed, variable, Verdict, sound, fixedForm, variableForm, sumRight, startOf, said, judge}
-use Rattle.frame.specs.Judging.{faultNumber}
+use Rattle.frame.specs.Frame.{Frame, fixed, variable, Verdict, sound, fixedForm, variableForm, sumRight, startOf, said, judge, faultNumber}
 use Rattle.frame.specs.Controls.{offered, askedBy, user-data, collects}
 use Rattle.fields.specs.Answers.{identityFound}
 use Rattle.image.specs.Image.{soundImage}

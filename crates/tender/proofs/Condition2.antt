@@ -9,27 +9,21 @@ use lib.Seq.{take-at}
 use Rattle.octets.specs.Over.{laidIn}
 use Rattle.octets.specs.declared.Kept.{Kept}
 use Rattle.octets.specs.Keeping.{octetsOf}
-use Rattle.octets.specs.Choice.{if_then_else_}
 use Rattle.octets.proofs.Choice.{either}
-use Rattle.history.specs.Invariant.{Invariant}
-use Rattle.history.proofs.Invariant.{always, at-gaps}
-use Rattle.frame.specs.declared.Fault.{Fault}
-use Rattle.frame.specs.declared.Fault.the-variants.{Empty, Long, Malformed, Spoiled}
+use Rattle.history.proofs.Invariant.{Invariant, always, at-gaps}
 use Rattle.frame.specs.declared.Reply.{Reply}
 use Rattle.frame.specs.declared.Service.{Service}
 use Rattle.frame.specs.Family.{sapr}
-use Rattle.frame.specs.Frame.{sound, judge}
-use Rattle.frame.specs.Judging.{faultNumber}
+use Rattle.frame.specs.Frame.{sound, judge, faultNumber}
 use Rattle.frame.specs.Writing.{replyFrame, replyOctets}
+use Rattle.frame.proofs.Frame.{fault-some}
 use Rattle.frame.proofs.RoundTrip.{reply-back, reply-length}
 use Rattle.collector.specs.Damage.{damages}
 use Rattle.link.specs.Answering.{answered}
 use Rattle.card.specs.declared.Card.{Card}
-use Rattle.card.specs.declared.Examined.{Examined}
-use Rattle.card.specs.declared.Finding.{Finding}
-use Rattle.card.specs.declared.Finding.the-variants.{Asks}
 use Rattle.card.specs.State.{cardAtPowerOn, withOctet, leftWith, damagedBy}
 use Rattle.card.specs.Examining.{examined}
+use Rattle.card.proofs.Examining.{as-heard}
 use Rattle.card.specs.Gap.{Outcome, refusal, repliedBy}
 use Rattle.card.proofs.Gap.{End, short, unsound, faulty, other-link, not-offered, not-reset, replied, gap-end}
 use Rattle.tender.specs.Card.{Loan, Heard, outcomeAt, ours, ourCard}
@@ -51,16 +45,6 @@ record Meets (card : Card) (loan : Loan) (o : Outcome) : Type 0 where
 record Told (card : Card) (loan : Loan) (o : Outcome) : Type 0 where
   leaves : Ready (o .card .link)
   replies : o .number ≡ 0 → Meets card loan o
-
-fault-some : (fault : Fault) → faultNumber fault ≡ 0 → ⊥
-fault-some Empty e = omega arith
-fault-some Long e = omega arith
-fault-some Malformed e = omega arith
-fault-some Spoiled e = omega arith
-
--- a finding with its user octets is what was heard
-as-heard : (x : Examined) {service : Service} → x .finding ≡ Asks service → x ≡ record { finding = Asks service; user = x .user }
-as-heard x e = ap (λ (f : Finding). record { finding = f; user = x .user }) e
 
 module _ (card : Card) (loan : Loan) (lent : Lent loan) (ready : Ready (card .link)) where
   abbrev user : Kept

@@ -1,7 +1,7 @@
 -- Condition 3 holds of our card: noise goes unnoticed; and a sound frame with exactly one octet changed is noise.
 -- By the laws of a deaf machine, kept being a collector that some run has left. Assumes nothing.
 use Prim.Native.Nat.{ℕ, _<_}
-use mathlib.Core.Bool.{true, false, not, _||_}
+use mathlib.Core.Bool.{true, not, _||_}
 use mathlib.Core.List.{List, [], _∷_, _++_}
 use mathlib.Core.Path.{_≡_, refl, sym, ap, subst, _∙_}
 use native.Mathlib.Omega.{arith}
@@ -12,23 +12,22 @@ use Rattle.octets.proofs.Choice.{either, if-both}
 use Rattle.octets.proofs.Numbers.{Octets}
 use Rattle.octets.specs.declared.Kept.{Kept}
 use Rattle.history.specs.History.{fed}
-use Rattle.history.specs.Invariant.{Invariant}
-use Rattle.history.specs.Noise.{Deaf}
-use Rattle.history.proofs.Noise.{unnoticed}
+use Rattle.history.proofs.Invariant.{Invariant}
+use Rattle.history.proofs.Noise.{Deaf, unnoticed}
 use Rattle.frame.specs.declared.Fault.{Fault}
-use Rattle.frame.specs.declared.Fault.the-variants.{Empty, Long, Malformed, Spoiled}
 use Rattle.frame.specs.declared.Asked.{Asked}
 use Rattle.frame.specs.declared.Asked.the-variants as asked
 use Rattle.frame.specs.declared.Form.the-variants as form
 use Rattle.frame.specs.Family.{sapr}
-use Rattle.frame.specs.Frame.{Frame, fixed, variable, Verdict, refused, sound, fixedForm, variableForm, startOf, sumRight, judge}
-use Rattle.frame.specs.Judging.{faultNumber}
+use Rattle.frame.specs.Frame.{Frame, fixed, variable, Verdict, refused, sound, fixedForm, variableForm, startOf, sumRight, judge, faultNumber}
 use Rattle.frame.specs.Controls.{offered}
+use Rattle.frame.proofs.Frame.{fault-some}
 use Rattle.frame.proofs.OneOctet.{one-octet-changed}
 use Rattle.fields.specs.Answers.{identityFound}
 use Rattle.image.specs.Image.{soundImage}
 use Rattle.collector.specs.declared.Collector.{Collector}
-use Rattle.collector.specs.Collecting.{emptied, collected, collectedAll}
+use Rattle.collector.specs.Collecting.{emptied, collected}
+use Rattle.collector.specs.Calls.{collectedAll}
 use Rattle.collector.specs.Damage.{damages}
 use Rattle.link.specs.declared.Link.{Link}
 use Rattle.link.specs.declared.Sends.{Sends}
@@ -217,12 +216,6 @@ noise-refused run x = by-verdict (judge sapr run) refl (judge-damaged run (x .so
     by-verdict : (v : Verdict) → judge sapr run ≡ v → Damaged v → Refused run
     by-verdict (refused fault) e d = record { fault = fault; says = e; damaged = d }
     by-verdict (sound f) e d = absurd (x .not-sound f e)
-
-fault-some : (fault : Fault) → faultNumber fault ≡ 0 → ⊥
-fault-some Empty e = omega arith
-fault-some Long e = omega arith
-fault-some Malformed e = omega arith
-fault-some Spoiled e = omega arith
 
 -- what a gap after noise answers and leaves
 noise-gap : (card : Card) (run : List ℕ) (loan : Loan) {image clock : List ℕ} → card .collector ≡ emptied → (r : Refused run) → Fit image clock loan

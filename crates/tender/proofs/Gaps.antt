@@ -8,7 +8,8 @@ use Rattle.history.specs.History.{fed}
 use Rattle.frame.specs.Family.{sapr}
 use Rattle.frame.specs.Frame.{Verdict, judge}
 use Rattle.collector.specs.declared.Collector.{Collector}
-use Rattle.collector.specs.Collecting.{emptied, collectedAll}
+use Rattle.collector.specs.Collecting.{emptied}
+use Rattle.collector.specs.Calls.{collectedAll}
 use Rattle.card.specs.Examining.{examined, examinedVerdict}
 use Rattle.card.proofs.Examining.{run-only}
 use Rattle.card.specs.declared.Card.{Card}

@@ -34,7 +34,7 @@ use Rattle.deeds.specs.declared.Waiting.the-variants.{NoReply, Mirror, Denied, 
 use Rattle.deeds.specs.declared.Pending.{Pending}
 use Rattle.deeds.specs.Deeds.{deedOf, doneBy, carriedOut, nothingPending}
 use Rattle.waiting.specs.declared.Next.{Next}
-use Rattle.waiting.specs.NextReply.{given, lastly, nothingFound, readingType, dataPending, mirrorWith, identityFrom}
+use Rattle.waiting.specs.NextReply.{firstly, lastly, nothingFound, readingType, dataPending, mirrorWith, identityFrom}
 use Rattle.waiting.specs.NextReply.{asked, datesFrom, clockFrom, dataFrom, afterData, beginWith, nextBy, nextOf}
 
 -- a message that a frame has room for
@@ -82,11 +82,11 @@ module _ (request : Kept) (short : Short request) where
       (λ _. reading-short (readingType (r .header .«type_id»)) (spanOf r) (drop before (choice (Reading (spanOf r)) image)))
 
   mirror-short : (pn : Bool) (cause : ℕ) → GivenShort (mirrorWith request pn cause)
-  unfolding mirrorWith lastly given mirrorOf
+  unfolding mirrorWith lastly firstly mirrorOf
   mirror-short pn cause = record { message = short; pending = nothing-kept }
 
   lastly-short : (octets : List ℕ) → length octets ≤ 252 → GivenShort (lastly (keptOf octets))
-  unfolding lastly given
+  unfolding lastly firstly
   lastly-short octets few = record { message = of-octets octets few; pending = nothing-kept }
 
   nothing-short : GivenShort nothingFound
@@ -111,11 +111,11 @@ module _ (request : Kept) (short : Short request) where
     data-kept before = record { request = short; clock = seven }
 
     begin-short : GivenShort (beginWith request clock)
-    unfolding beginWith given mirrorOf
+    unfolding beginWith firstly mirrorOf
     begin-short = record { message = short; pending = data-kept 0 }
 
     after-data-short : (before : ℕ) (some : Portion) → Short (some .message) → GivenShort (afterData request clock before some)
-    unfolding afterData given
+    unfolding afterData firstly
     after-data-short before some few =
         either GivenShort (eqb (some .many) 0) (λ _. mirror-short false 10) (λ _. record { message = few; pending = data-kept _ })
 

@@ -8,7 +8,8 @@ use native.Mathlib.Omega.{arith}
 use lib.ListN.{getD, replicate, length-replicate}
 use Rattle.octets.proofs.Numbers.{Octets}
 use Rattle.history.specs.History.{closedRun, AllFit}
-use Rattle.history.specs.Noise.{Noised, Deaf}
+use Rattle.history.specs.Noise.{Noised}
+use Rattle.history.proofs.Noise.{Deaf}
 use Rattle.history.specs.Noise as N
 use Rattle.frame.specs.declared.Fault.{Fault}
 use Rattle.frame.specs.declared.Fault.the-variants.{Long, Malformed, Spoiled}

@@ -19,7 +19,8 @@ use Rattle.frame.specs.Frame.{Frame, fixed, variable, sound, judge}
 use Rattle.frame.specs.Controls.{askedBy}
 use Rattle.frame.specs.Writing.{replyOctets}
 use Rattle.fields.specs.Answers.{identityFound}
-use Rattle.collector.specs.Collecting.{emptied, collectedAll}
+use Rattle.collector.specs.Collecting.{emptied}
+use Rattle.collector.specs.Calls.{collectedAll}
 use Rattle.link.specs.declared.Sends.{Sends}
 use Rattle.link.specs.declared.Sends.the-variants.{NotReset, Remembered}
 use Rattle.link.specs.declared.Answered.{Answered}

@@ -33,10 +33,10 @@ use Rattle.link.specs.State.{afterReset, afterNew}
 use Rattle.link.specs.Answering.{answeredBy, noted, carried, userData, answered}
 use Rattle.link.proofs.Answering.{with-new, Way, as-reset, as-status, not-reset, repeated, as-nack, carried-out, as-given, nothing-given, way}
 use Rattle.card.specs.declared.Card.{Card}
-use Rattle.card.specs.declared.Finding.{Finding}
 use Rattle.card.specs.declared.Finding.the-variants.{Asks}
 use Rattle.card.specs.State.{leftWith, damagedBy}
 use Rattle.card.specs.Examining.{examined}
+use Rattle.card.proofs.Examining.{as-heard}
 use Rattle.card.specs.Gap.{Outcome, refusal, repliedBy, afterAnswer}
 use Rattle.card.proofs.Gap.{End, short, unsound, faulty, other-link, not-offered, replied, gap-heard, gap-end}
 use Rattle.card.proofs.Gap as end
@@ -130,7 +130,7 @@ module _ (card : Card) (loan : Loan) where
   heard-ended : 261 ≤ length (loan .buffer) → soundImage (loan .image) ≡ true → (service : Service) → examined (card .collector) (loan .image) .finding ≡ Asks service
       → let a = answered (card .link) service user (loan .image) (loan .clock) in Ended card loan (a .order) (a .time) (a .link .session)
   heard-ended room sound service f =
-      way-ended (record { room = room; sound-image = sound; heard = ap (λ (x : Finding). record { finding = x; user = user }) f })
+      way-ended (record { room = room; sound-image = sound; heard = as-heard (examined (card .collector) (loan .image)) f })
       (way (card .link) user (loan .image) (loan .clock) service)
 
   abbrev EndedSo : Outcome → Type 0

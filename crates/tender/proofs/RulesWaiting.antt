@@ -35,23 +35,19 @@ use Rattle.data.specs.Portions.{nextReading}
 use Rattle.data.proofs.Messages.{object-number, object-value, object-quality}
 use Rattle.deeds.specs.declared.Waiting.{Waiting}
 use Rattle.deeds.specs.declared.Pending.{Pending}
-use Rattle.deeds.specs.Deeds.{deedOf, mirrorBy, doneBy, carriedOut, nothingPending}
+use Rattle.deeds.specs.Deeds.{deedOf, mirrorBy, doneBy, carriedOut}
 use Rattle.deeds.proofs.Deeds.{refused-mirror}
-use Rattle.waiting.specs.NextReply.{given, lastly, nothingFound, readingType, mirrorWith, clockFrom, dataFrom, nextBy, nextOf}
+use Rattle.waiting.specs.NextReply.{firstly, lastly, readingType, mirrorWith, clockFrom, dataFrom, nextBy, nextOf}
 use Rattle.waiting.specs.Collected.{messagesCollected, inGroups, eventsMessage, readingMessage}
-use Rattle.waiting.proofs.Collected.{events-collected, events-number, readings-collected}
+use Rattle.waiting.proofs.Collected.{nothing-more, events-collected, events-number, readings-collected}
 use Rattle.tender.specs.Rules.{requestIn, identityOf, datesOf, eventsFor, readingsFor, betweenMirrors, spanIn, WaitingRow, waitingRows, WaitingReplies, OneMirror, ChosenAlone, ObjectN}
 
 -- what is given last is one message, and nothing more
 once : (pending : Pending) (image : List ℕ) (message : Kept) → nextOf pending image ≡ lastly message → (turns : ℕ) → 1 ≤ turns
     → messagesCollected turns pending image ≡ message ∷ []
-unfolding messagesCollected nextOf nothingPending nothingFound lastly given
+unfolding messagesCollected lastly firstly
 once pending image message e zero some = absurd (omega (arith, some))
 once pending image message e (suc turns) some = rw e (ap (message ∷_) (nothing-more turns image))
-  where
-    nothing-more : (turns : ℕ) (image : List ℕ) → messagesCollected turns nothingPending image ≡ []
-    nothing-more zero image = refl
-    nothing-more (suc turns) image = refl
 
 -- a sound image has a first record
 head-there : (image : List ℕ) → soundImage image ≡ true → identityFound image ≡ head.Nothing → ⊥

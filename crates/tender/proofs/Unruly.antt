@@ -14,10 +14,10 @@ use Rattle.frame.specs.declared.Service.the-variants.{UserData}
 use Rattle.frame.specs.Controls.{user-data}
 use Rattle.frame.specs.Writing.{plain}
 use Rattle.octets.specs.Keeping.{keptOf}
-use Rattle.card.specs.declared.Finding.{Finding}
 use Rattle.card.specs.declared.Finding.the-variants.{Asks}
 use Rattle.collector.specs.Collecting.{emptied}
 use Rattle.card.specs.Examining.{examined}
+use Rattle.card.proofs.Examining.{as-heard}
 use Rattle.rules.specs.declared.Session.the-variants.{Open}
 use Rattle.rules.specs.declared.Rule.the-variants.{Accepted}
 use Rattle.deeds.specs.declared.Waiting.the-variants.{Mirror}
@@ -61,7 +61,7 @@ hears card service asks =
     record {
       room = fit .full-size;
       sound-image = fit .sound-image;
-      heard = ap (λ (f : Finding). record { finding = f; user = userOf card }) asks;
+      heard = as-heard (examined (card .collector) smallest) asks;
     }
 
 pub status-closes : StatusKeeps closingAtStatus → ⊥

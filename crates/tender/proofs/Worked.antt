@@ -3,10 +3,11 @@
 -- Assumes nothing.
 use mathlib.Core.List.{flatten}
 use Rattle.octets.specs.Conditions.{holds}
-use Rattle.octets.specs.Numbers.{lowFirst, highFirst, lowOctets, highOctets}
-use Rattle.octets.specs.Over.{over, fitsAt}
+use Rattle.octets.specs.Numbers.{lowFirst, highFirst, lowOctets}
+use Rattle.octets.specs.Over.{over}
+use Rattle.octets.specs.Calls.{fitsAt, added}
 use Rattle.octets.specs.Sum.{octetSum, checksum}
-use Rattle.octets.specs.Keeping.{octetsOf, keptOf, added}
+use Rattle.octets.specs.Keeping.{octetsOf, keptOf}
 use Rattle.history.specs.History.{answers, after, fed}
 use Rattle.label.specs.Calendar.{leap, leapDay, monthLength, daysOfMonths, daysToYear, dayNumber}
 use Rattle.label.specs.Time.{real, minutes, partsOf}
@@ -15,12 +16,14 @@ use Rattle.label.specs.Label.{labelAAt, labelBAt, labelAOctets, labelBOctets}
 use Rattle.frame.specs.Controls.{offered}
 use Rattle.frame.specs.Frame.{sumRight, fixedForm, variableForm, startOf, saidFixed, saidVariable, said, judge, bodyOf, startWith, written}
 use Rattle.frame.specs.Writing.{replyFrame, replyOctets}
-use Rattle.collector.specs.Collecting.{emptied, overfull, isOverfull, collected, runOf, collectedAll, verdictOf}
+use Rattle.collector.specs.Collecting.{emptied, overfull, isOverfull, collected, runOf, verdictOf}
+use Rattle.collector.specs.Calls.{collectedAll}
 use Rattle.collector.specs.Damage.{oneMore}
 use Rattle.records.specs.Records.{lengthOf, isWhole, walk, records, wholeAt, recordAt, recordsFrom, kindAt, placeAfter}
 use Rattle.records.specs.Said.{every, linked, keep, howMany, placesOf}
 use Rattle.fields.specs.Answers.{recordsOf, identityFound, leading, pointsFrom, pointsOf, pointIn}
-use Rattle.fields.specs.Answers.{pointFound, datesAt, datesPlace, datesFound, valueFound, eventFound}
+use Rattle.fields.specs.Answers.{pointFound, datesAt, datesPlace, datesFound}
+use Rattle.fields.specs.Calls.{valueFound, eventFound}
 use Rattle.fields.specs.Parts.{numberAt, linkOf, dateOf, makerOf, productOf, pointOf, passwordOf}
 use Rattle.fields.specs.Parts.{firstDate, secondDate, recordAddress, readingLabel, valueOf, qualityOf, spaOf, spqOf, eventLabel}
 use Rattle.image.specs.Image.{readingRecord, eventRecord, right, byPoint, readingBefore, eventBefore, inOrder, knows, soundImage}
@@ -30,7 +33,7 @@ use Rattle.message.specs.Mirror.{mirror, mirrorOf}
 use Rattle.message.specs.Table.{table, rowIn}
 use Rattle.rules.specs.Decide.{spanOf, objectsRight, labelsValid, firstAfterLast, noneIn, byType, decide}
 use Rattle.deeds.specs.Deeds.{carriedOut, nothingPending}
-use Rattle.waiting.specs.NextReply.{given as follows, lastly, nothingFound, readingType, dataPending, mirrorWith, clockFrom, dataFrom, afterData, beginWith, nextOf}
+use Rattle.waiting.specs.NextReply.{firstly, lastly, nothingFound, readingType, dataPending, mirrorWith, clockFrom, dataFrom, afterData, beginWith, nextOf}
 use Rattle.link.specs.State.{powerOn, afterReset, afterNew}
 use Rattle.link.specs.Answering.{answeredBy, noted, carried, userData, given, collection, counted, answered}
 use Rattle.card.specs.State.{cardAtPowerOn, withOctet, leftWith, damagedBy}
@@ -38,7 +41,7 @@ use Rattle.card.specs.Examining.{examinedFrame, examined}
 use Rattle.card.specs.Gap.{refusal, repliedBy, afterAnswer, afterExamining, gapped, goneBy}
 
 unfoldable pub of-octets : Unit {0}
-unfolding flatten holds lowFirst highFirst lowOctets highOctets over fitsAt octetSum checksum octetsOf keptOf added
+unfolding flatten holds lowFirst highFirst lowOctets over fitsAt octetSum checksum octetsOf keptOf added
 of-octets = tt
 
 unfoldable pub of-history : Unit {0}
@@ -84,7 +87,7 @@ unfolding carriedOut nothingPending
 of-deeds = tt
 
 unfoldable pub of-waiting : Unit {0}
-unfolding follows lastly nothingFound readingType dataPending mirrorWith clockFrom dataFrom afterData beginWith nextOf
+unfolding firstly lastly nothingFound readingType dataPending mirrorWith clockFrom dataFrom afterData beginWith nextOf
 of-waiting = tt
 
 unfoldable pub of-link : Unit {0}

@@ -28,7 +28,7 @@ use Rattle.frame.specs.Frame.{fixed, variable, Verdict, refused, sound, judge}
 use Rattle.frame.specs.Controls.{offered}
 use Rattle.frame.specs.Writing.{plain}
 use Rattle.frame.proofs.Judging.{user-octets}
-use Rattle.data.proofs.Messages.{number-small}
+use Rattle.fields.proofs.Parts.{number-small}
 use Rattle.collector.specs.declared.Collector.{Collector}
 use Rattle.collector.specs.Collecting.{isOverfull, runOf, verdictOf}
 use Rattle.link.specs.declared.Link.{Link}

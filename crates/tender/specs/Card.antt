@@ -9,7 +9,6 @@ use Rattle.octets.specs.declared.Kept.{Kept}
 use Rattle.frame.specs.declared.Service.{Service}
 use Rattle.history.specs.History.{Event, Stepped, Machine, answers, after, fed}
 use Rattle.deeds.specs.declared.Order.{Order}
-use Rattle.deeds.specs.declared.Order.the-variants.{NoOrder}
 use Rattle.card.specs.declared.Card.{Card}
 use Rattle.card.specs.declared.Finding.the-variants.{Asks}
 use Rattle.card.specs.State.{cardAtPowerOn, withOctet}
@@ -65,14 +64,6 @@ received m card run loan = m .gap (fed m card run) loan
 -- the run is examined, and a service for this card is heard, with these user octets
 abbrev pub Heard : Card → Loan → Service → Kept → Type 0
 Heard card loan service user = examined (card .collector) (loan .image) ≡ record { finding = Asks service; user = user }
-
--- a card is left, and a number and a reply are seen, in the first octets of the buffer; the rest of it is unchanged, and there is no order
-abbrev pub says : Card → ℕ → List ℕ → List ℕ → Stepped Card Seen
-says card number reply buffer =
-    record {
-      state = card;
-      answer = record { number = number; count = length reply; order = NoOrder; time = noTime; buffer = laidIn buffer reply };
-    }
 
 -- ours: the definition
 abbrev pub seenOf : gap.Outcome → List ℕ → Seen

@@ -5,8 +5,9 @@
 use Prim.Native.Nat.{ℕ}
 use mathlib.Core.Bool.{Bool, true, false}
 use mathlib.Core.List.{List, [], _∷_, map}
-use lib.ListN.{replicate}
+use lib.ListN.{length, replicate}
 use Rattle.octets.specs.Choice.{if_then_else_}
+use Rattle.octets.specs.Over.{laidIn}
 use Rattle.address.specs.declared.LinkAddress.{LinkAddress}
 use Rattle.address.specs.declared.PointAddress.{PointAddress}
 use Rattle.history.specs.History.{Stepped}
@@ -18,13 +19,14 @@ use Rattle.octets.specs.Keeping.{keptOf}
 use Rattle.collector.specs.Collecting.{emptied}
 use Rattle.rules.specs.declared.Session.{Session}
 use Rattle.rules.specs.declared.Session.the-variants.{Closed, Open}
+use Rattle.deeds.specs.declared.Order.the-variants.{NoOrder}
 use Rattle.deeds.specs.declared.Pending.{Pending}
 use Rattle.deeds.specs.declared.Waiting.{Waiting}
 use Rattle.deeds.specs.declared.Waiting.the-variants.{NoReply, Mirror}
 use Rattle.link.specs.State.{dataReply}
 use Rattle.card.specs.declared.Card.{Card}
 use Rattle.card.specs.State.{cardAtPowerOn}
-use Rattle.tender.specs.Card.{Loan, Seen, received, says, ours}
+use Rattle.tender.specs.Card.{Loan, Seen, noTime, received, ours}
 
 -- a run, and what its gap does: the number, the reply's octets, the card that is left
 pub record Turn : Type 0 where
@@ -51,6 +53,14 @@ smallest =
 
 abbrev pub lent : Loan
 lent = record { image = smallest; clock = replicate 7 0; buffer = replicate 261 0 }
+
+-- a card is left, and a number and a reply are seen, in the first octets of the buffer; the rest of it is unchanged, and there is no order
+abbrev pub says : Card → ℕ → List ℕ → List ℕ → Stepped Card Seen
+says card number reply buffer =
+    record {
+      state = card;
+      answer = record { number = number; count = length reply; order = NoOrder; time = noTime; buffer = laidIn buffer reply };
+    }
 
 -- what is said of a case: outcomes of gaps, or numbers
 pub data Said : Type 0 where

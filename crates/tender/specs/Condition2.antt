@@ -7,8 +7,7 @@ use mathlib.Core.List.{List}
 use mathlib.Core.Path.{_≡_}
 use lib.ListN.{length, getD}
 use Rattle.octets.specs.declared.Kept.{Kept}
-use Rattle.history.specs.History.{AllFit}
-use Rattle.history.specs.Invariant.{AtGaps}
+use Rattle.history.specs.History.{AllFit, AtGaps}
 use Rattle.frame.specs.declared.Reply.{Reply}
 use Rattle.frame.specs.declared.Service.{Service}
 use Rattle.frame.specs.Family.{sapr}

@@ -11,7 +11,8 @@ use Rattle.rules.specs.declared.Session.the-variants.{Closed}
 use Rattle.deeds.specs.declared.Order.the-variants.{SetClock}
 use Rattle.deeds.specs.Deeds.{nothingPending}
 use Rattle.card.specs.declared.Card.{Card}
-use Rattle.tender.specs.Card.{Calls, says, ours}
+use Rattle.tender.specs.Card.{Calls, ours}
+use Rattle.tender.specs.Cases.{says}
 use Rattle.tender.specs.Wrong.{withGap, linkedBy, inSession, awaiting, leaving}
 use Rattle.tender.specs.Rules.{nothingToGive}
 

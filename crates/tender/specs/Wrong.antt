@@ -16,7 +16,8 @@ use Rattle.link.specs.declared.Link.{Link}
 use Rattle.link.specs.State.{powerOn, afterReset, afterNew}
 use Rattle.card.specs.declared.Card.{Card}
 use Rattle.card.specs.State.{cardAtPowerOn, collecting, withOctet}
-use Rattle.tender.specs.Card.{Loan, Seen, AnyCard, says, ours}
+use Rattle.tender.specs.Card.{Loan, Seen, AnyCard, ours}
+use Rattle.tender.specs.Cases.{says}
 
 -- a card with our power-on and our octet function, and another gap function
 abbrev pub withGap : (Card → Loan → Stepped Card Seen) → AnyCard

@@ -1,5 +1,5 @@
 -- What the public contracts of this crate do not allow: two wrong outcomes or more of each.
--- By what is left of a text that fits and of one that does not. That the next run gets the next number is not a turn's to say: `turnsText` and
+-- By what is returned and left with a short buffer and with any other. That the next run gets the next number is not a turn's to say: `turnsText` and
 -- `Steps` fix it, and a turn prints the number that it is called with. Assumes nothing.
 use Prim.Native.Nat.{ℕ, _≤_, _<_}
 use mathlib.Core.Bool.{true, false, false≢true}
@@ -8,8 +8,8 @@ use mathlib.Core.Path.{_≡_, refl, sym, ap, _∙_}
 use native.Mathlib.Omega.{arith}
 use contract.Lifetimes.{Lfts}
 use denote.Ref.{now}
+use lib.Dec.{ltb}
 use lib.ListN.{length, getD, take, drop}
-use Rattle.octets.specs.Over.{fitsAt}
 use Rattle.octets.proofs.Choice.{either}
 use Rattle.octets.proofs.Outcome.{RuledOut, RuledOutWith, Place, lent}
 use Rattle.card.specs.declared.Card.{Card}
@@ -43,15 +43,20 @@ head-card head.Cut = refl
 head-card head.Image = refl
 head-card head.Whole = refl
 
--- so of a text that is refused as well
+-- what holds of a turn and of its refusal holds with whatever buffer: so of the card, the last turn and no text
 module _ (under : List ℕ) (before : Card) (t : Turn) where
-  fitting-card : t .card ≡ before → fittingTurn under before t .card ≡ before
+  fitting-so : (P : Turn → Type 0) → P (lastTurn [] before) → P t → P (fittingTurn under before t)
   unfolding fittingTurn
-  fitting-card e = either (λ (u : Turn). u .card ≡ before) (fitsAt under 0 (t .text)) (λ _. e) (λ _. refl)
+  fitting-so P refusal all = either P (ltb (length under) 1024) (λ _. refusal) (λ _. all)
+
+  fitting-card : t .card ≡ before → fittingTurn under before t .card ≡ before
+  fitting-card e = fitting-so (λ (u : Turn). u .card ≡ before) refl e
 
   fitting-last : t .more ≡ false → fittingTurn under before t .more ≡ false
-  unfolding fittingTurn
-  fitting-last e = either (λ (u : Turn). u .more ≡ false) (fitsAt under 0 (t .text)) (λ _. e) (λ _. refl)
+  fitting-last e = fitting-so (λ (u : Turn). u .more ≡ false) refl e
+
+  fitting-none : t .text ≡ [] → fittingTurn under before t .text ≡ []
+  fitting-none e = fitting-so (λ (u : Turn). u .text ≡ []) refl e
 
 module _ (κs : Lfts 2) (x y : Place) (out read : List ℕ) (wrong : Left) where
   -- another card than that at power-on, whatever the head
@@ -67,14 +72,14 @@ module _ (κs : Lfts 2) (x y : Place) (out read : List ℕ) (wrong : Left) where
       false≢true (sym (fitting-last out cardAtPowerOn (headTurn read) (head-last (headFound read) other)) ∙ sym (ap (λ (l : Left). l .more) (p .0 .answers)) ∙ more)
 
   -- no run after a whole head
-  start-none : headFound read ≡ head.Whole → wrong .more ≡ false → RuledOut (start.Post κs) (lent x out, (lent y read, tt)) wrong
+  start-none : headFound read ≡ head.Whole → 1024 ≤ length out → wrong .more ≡ false → RuledOut (start.Post κs) (lent x out, (lent y read, tt)) wrong
   unfolding leftBy headTurn afterHead
-  start-none found none s p =
+  start-none found room none s p =
       let said : Turned out cardAtPowerOn (afterHead head.Whole) wrong (now (s .0)) = rw found at p in
-      false≢true (sym none ∙ ap (λ (l : Left). l .more) (whole _ _ _ said (omega arith)))
+      false≢true (sym none ∙ ap (λ (l : Left). l .more) (whole _ _ _ said room))
 
   -- CUT for cut, whatever is answered
-  start-case : headFound read ≡ head.Cut → 4 ≤ length out
+  start-case : headFound read ≡ head.Cut → 1024 ≤ length out
       → RuledOutWith (λ s. take 4 (now (s .0))) (start.Post κs) (lent x out, (lent y read, tt)) wrong (67 ∷ 85 ∷ 84 ∷ 10 ∷ [])
   unfolding headTurn afterHead
   start-case found room s e p =
@@ -82,14 +87,14 @@ module _ (κs : Lfts 2) (x y : Place) (out read : List ℕ) (wrong : Left) where
       omega (arith, ap (λ (l : List ℕ). getD l 0 0) (sym e ∙ stands _ _ _ said room))
 
   -- nothing said of another version
-  start-version : headFound read ≡ head.Version → 8 ≤ length out → (wrong .count ≡ 8 → ⊥) → RuledOut (start.Post κs) (lent x out, (lent y read, tt)) wrong
+  start-version : headFound read ≡ head.Version → 1024 ≤ length out → (wrong .count ≡ 8 → ⊥) → RuledOut (start.Post κs) (lent x out, (lent y read, tt)) wrong
   unfolding leftBy headTurn afterHead
   start-version found room other s p =
       let said : Turned out cardAtPowerOn (afterHead head.Version) wrong (now (s .0)) = rw found at p in
       other (ap (λ (l : Left). l .count) (whole _ _ _ said room))
 
-  -- a count of a text that does not fit
-  start-short : length out < length (headTurn read .text) → (wrong .count ≡ 0 → ⊥) → RuledOut (start.Post κs) (lent x out, (lent y read, tt)) wrong
+  -- a short buffer, and a text yet counted
+  start-short : length out < 1024 → (wrong .count ≡ 0 → ⊥) → RuledOut (start.Post κs) (lent x out, (lent y read, tt)) wrong
   unfolding leftBy
   start-short short other s p = other (ap (λ (l : Left). l .count) (refused _ _ _ p short))
 
@@ -115,7 +120,7 @@ module _ (κs : Lfts 3) (x y z : Place) (out : List ℕ) (card : Card) (image cl
       false≢true (sym (fitting-last out card (lastTurn cutLine card) refl) ∙ sym (ap (λ (l : Left). l .more) (said-of run.Cut found p .0 .answers)) ∙ more)
 
   -- CUT for cut, whatever is answered
-  turn-cut-case : runFound octets ≡ run.Cut → 4 ≤ length out
+  turn-cut-case : runFound octets ≡ run.Cut → 1024 ≤ length out
       → RuledOutWith (λ s. take 4 (now (s .0))) (turn.Post κs) (lent x out, (card, (lent y image, (clock, (number, (lent z octets, tt)))))) wrong
       (67 ∷ 85 ∷ 84 ∷ 10 ∷ [])
   unfolding afterRun
@@ -125,7 +130,25 @@ module _ (κs : Lfts 3) (x y z : Place) (out : List ℕ) (card : Card) (image cl
   turn-end-text : runFound octets ≡ run.End → (wrong .count ≡ 0 → ⊥)
       → RuledOut (turn.Post κs) (lent x out, (card, (lent y image, (clock, (number, (lent z octets, tt)))))) wrong
   unfolding leftBy afterRun
-  turn-end-text found other s p = other (ap (λ (l : Left). l .count) (whole _ _ _ (said-of run.End found p) (omega arith)))
+  turn-end-text found other s p =
+      other (ap (λ (l : Left). l .count) (said-of run.End found p .0 .answers) ∙ ap length (fitting-none out card (lastTurn [] card) refl))
+
+  -- a short buffer, and the run yet carried out
+  turn-short-card : length out < 1024 → (wrong .card ≡ card → ⊥)
+      → RuledOut (turn.Post κs) (lent x out, (card, (lent y image, (clock, (number, (lent z octets, tt)))))) wrong
+  unfolding leftBy
+  turn-short-card short other s p = other (ap (λ (l : Left). l .card) (refused _ _ _ p short))
+
+  -- a short buffer, and another run yet let follow
+  turn-short-more : length out < 1024 → wrong .more ≡ true
+      → RuledOut (turn.Post κs) (lent x out, (card, (lent y image, (clock, (number, (lent z octets, tt)))))) wrong
+  unfolding leftBy
+  turn-short-more short more s p = false≢true (sym (ap (λ (l : Left). l .more) (refused _ _ _ p short)) ∙ more)
+
+  -- a short buffer, and the buffer yet changed
+  turn-short-buffer : (other : List ℕ) → length out < 1024 → (other ≡ out → ⊥)
+      → RuledOutWith (λ s. now (s .0)) (turn.Post κs) (lent x out, (card, (lent y image, (clock, (number, (lent z octets, tt)))))) wrong other
+  turn-short-buffer other short differ s e p = differ (sym e ∙ kept _ _ _ p short)
 
   -- a whole run
   module _ (found : runFound octets ≡ run.Whole) where
@@ -143,32 +166,20 @@ module _ (κs : Lfts 3) (x y z : Place) (out : List ℕ) (card : Card) (image cl
     said-whole p = said-of run.Whole found p
 
     -- the card thrown away after a run, or any other card than the one that the gap left
-    turn-card : length text ≤ length out → (wrong .card ≡ outcome .card → ⊥)
+    turn-card : 1024 ≤ length out → (wrong .card ≡ outcome .card → ⊥)
         → RuledOut (turn.Post κs) (lent x out, (card, (lent y image, (clock, (number, (lent z octets, tt)))))) wrong
     unfolding leftBy lineTurn
-    turn-card fits other s p = other (ap (λ (l : Left). l .card) (whole _ _ _ (said-whole p) fits))
+    turn-card room other s p = other (ap (λ (l : Left). l .card) (whole _ _ _ (said-whole p) room))
 
     -- no run after a whole one
-    turn-none : length text ≤ length out → wrong .more ≡ false
+    turn-none : 1024 ≤ length out → wrong .more ≡ false
         → RuledOut (turn.Post κs) (lent x out, (card, (lent y image, (clock, (number, (lent z octets, tt)))))) wrong
     unfolding leftBy lineTurn
-    turn-none fits none s p = false≢true (sym none ∙ ap (λ (l : Left). l .more) (whole _ _ _ (said-whole p) fits))
+    turn-none room none s p = false≢true (sym none ∙ ap (λ (l : Left). l .more) (whole _ _ _ (said-whole p) room))
 
     -- another text than the run's line, with another number too
-    turn-line : (other : List ℕ) → length text ≤ length out → (other ≡ text → ⊥)
+    turn-line : (other : List ℕ) → 1024 ≤ length out → (other ≡ text → ⊥)
         → RuledOutWith (λ s. take (length text) (now (s .0))) (turn.Post κs) (lent x out, (card, (lent y image, (clock, (number, (lent z octets, tt)))))) wrong
         other
     unfolding lineTurn
-    turn-line other fits differ s e p = differ (sym e ∙ stands _ _ _ (said-whole p) fits)
-
-    -- a line that does not fit, and the run yet carried out
-    turn-short-card : length out < length text → (wrong .card ≡ card → ⊥)
-        → RuledOut (turn.Post κs) (lent x out, (card, (lent y image, (clock, (number, (lent z octets, tt)))))) wrong
-    unfolding leftBy lineTurn
-    turn-short-card short other s p = other (ap (λ (l : Left). l .card) (refused _ _ _ (said-whole p) short))
-
-    -- a line that does not fit, and the buffer yet changed
-    turn-short-buffer : (other : List ℕ) → length out < length text → (other ≡ out → ⊥)
-        → RuledOutWith (λ s. now (s .0)) (turn.Post κs) (lent x out, (card, (lent y image, (clock, (number, (lent z octets, tt)))))) wrong other
-    unfolding lineTurn
-    turn-short-buffer other short differ s e p = differ (sym e ∙ kept _ _ _ (said-whole p) short)
+    turn-line other room differ s e p = differ (sym e ∙ stands _ _ _ (said-whole p) room)

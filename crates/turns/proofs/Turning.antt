@@ -1,15 +1,14 @@
 -- A turn's text in a lent buffer: a last text, the line of a gap, then the head and a run by what they are found to be; and what a turn leaves.
--- By whether the text fits; no line is empty, so a count of 0 says that it does not. Assumes nothing.
+-- By whether the buffer is short; one that is not holds every text, since none has over 1,024 octets. Assumes nothing.
 use Prim.Native.Nat.{ℕ, _+_, _*_, _≤_, _<_}
-use mathlib.Core.Bool.{Bool, true, false}
-use mathlib.Core.List.{List, [], _∷_, _++_}
+use mathlib.Core.Bool.{Bool, true}
+use mathlib.Core.List.{List, [], _∷_}
 use mathlib.Core.Path.{_≡_, refl, sym, ap, _∙_}
 use native.Mathlib.Omega.{arith}
-use lib.ListN.{length, take, drop, length-append, length-take, length-drop}
+use lib.ListN.{length, take, drop, length-append, length-drop}
 use lib.Seq.{take-all, take-append-seam}
-use borrow.Author.Tests.{le-leb, lt-leb}
-use Rattle.octets.specs.Over.{fitsAt}
-use Rattle.octets.proofs.Choice.{either}
+use borrow.Author.Tests.{lt-ltb, le-ltb}
+use Rattle.deeds.specs.declared.Order.{Order}
 use Rattle.card.specs.declared.Card.{Card}
 use Rattle.card.specs.declared.Gone.{Gone}
 use Rattle.card.specs.State.{cardAtPowerOn, withOctets}
@@ -18,142 +17,119 @@ use Rattle.input.specs.declared.Head.{Head}
 use Rattle.input.specs.declared.Run.{Run}
 use Rattle.input.specs.declared.Run.the-variants as run
 use Rattle.input.specs.Input.{headFound, runFound}
-use Rattle.printing.specs.Line.{space, newline, replyText, beginning, lineOf, fitting, Lined}
+use Rattle.printing.specs.Line.{space, replyText, beginning, lineOf, Lined}
 use Rattle.printing.proofs.Text.{decimal-length, pairs-length}
-use Rattle.printing.proofs.Lines.{word-length}
+use Rattle.printing.proofs.Lines.{word-length, counted, laid}
 use Rattle.turns.specs.declared.Left.{Left}
 use Rattle.turns.specs.Printed.{Turn, turnBy, lastTurn, afterHead, headTurn, lineTurn, gapTurn, afterRun, runTurn}
-use Rattle.turns.specs.Turned.{fittingTurn, leftBy, Turned, goneTurn}
+use Rattle.turns.specs.Turned.{fittingTurn, leftBy, Taken, Turned}
 
--- a last text, and one that is refused
-pub said-turned : (under text : List ℕ) (card : Card) {left : List ℕ} {count : ℕ} → length text ≤ 1024 → Lined under text count left
-    → Turned under card (lastTurn text card) (record { count = count; card = card; more = false }) left
-unfolding leftBy fittingTurn
-said-turned under text card most l =
-    let fits : fittingTurn under card (lastTurn text card) ≡ lastTurn (fitting under text) card =
-    either (λ (t : Turn). t ≡ lastTurn (fitting under text) card) (fitsAt under 0 text) (λ e. rw e) (λ e. rw e) in
-    (rw fits (record { answers = rw (l .answers); left-so = l .left-so }), most)
+-- with room for every text a turn is as it is, and with a short buffer it is refused
+module _ (under : List ℕ) (before : Card) (t : Turn) where
+  roomy-turn : 1024 ≤ length under → fittingTurn under before t ≡ t
+  unfolding fittingTurn
+  roomy-turn room = rw (le-ltb (length under) 1024 room)
 
--- no text fits everywhere
-pub silent-turned : (under : List ℕ) (card : Card) (more : Bool) → Turned under card (turnBy [] card more) (record { count = 0; card = card; more = more }) under
-unfolding leftBy fittingTurn fitsAt
-silent-turned under card more = (rw (le-leb 0 (length under) (omega arith)) (record { answers = refl; left-so = refl }), omega arith)
+  short-turn : length under < 1024 → fittingTurn under before t ≡ lastTurn [] before
+  unfolding fittingTurn
+  short-turn short = rw (lt-ltb (length under) 1024 short)
+
+  taken-turned : {left : List ℕ} {r : Left} → 1024 ≤ length under → Taken under t r left → Turned under before t r left
+  taken-turned room p = rw (roomy-turn room) p
+
+  pub short-turned : {r : Left} → length under < 1024 → r ≡ leftBy (lastTurn [] before) → Turned under before t r under
+  short-turned short e = rw (short-turn short) (record { answers = e; left-so = refl }, omega arith)
+
+-- a text that is written where there is room
+pub written-taken : (under : List ℕ) (t : Turn) {left : List ℕ} {count : ℕ} → 1024 ≤ length under → length (t .text) ≤ 1024 → Lined under (t .text) count left
+    → Taken under t (record { count = count; card = t .card; more = t .more }) left
+unfolding leftBy
+written-taken under t room most l =
+    let fits : length (t .text) ≤ length under = omega arith in
+    (record { answers = rw (counted under (t .text) l fits); left-so = laid under (t .text) l fits }, most)
+
+-- no text
+pub silent-taken : (under : List ℕ) (card : Card) (more : Bool) → Taken under (turnBy [] card more) (record { count = 0; card = card; more = more }) under
+unfolding leftBy
+silent-taken under card more = (record { answers = refl; left-so = refl }, omega arith)
 
 -- how long a line is with a reply of 261 octets at most
 reply-length : (reply : List ℕ) → length (replyText reply) ≤ length reply * 3 + 2
 reply-length [] = omega arith
 reply-length (octet ∷ rest) = omega (arith, pairs-length space (octet ∷ rest))
 
-module _ (number : ℕ) (gone : Gone) (buffer : List ℕ) where
-  line-most : length buffer ≤ 261 → length (goneTurn number gone buffer .text) ≤ 1024
-  unfolding goneTurn lineOf beginning
-  line-most few =
-      let reply = take (gone .length) buffer in
-      simp length-append
-      (omega (arith, decimal-length number, decimal-length (gone .number), word-length (gone .order), reply-length reply, length-take (gone .length) buffer))
+line-most : (number result : ℕ) (order : Order) (reply : List ℕ) → length reply ≤ 261 → length (lineOf number result order reply) ≤ 1024
+unfolding lineOf beginning
+line-most number result order reply few =
+    simp length-append (omega (arith, decimal-length number, decimal-length result, word-length order, reply-length reply))
 
-  -- no line is empty
-  line-some : 0 < length (goneTurn number gone buffer .text)
-  unfolding goneTurn lineOf
-  line-some = omega (arith, length-append (beginning number (gone .number) (gone .order) ++ replyText (take (gone .length) buffer)) newline)
+-- the line of a gap: the reply stands in the first octets of its buffer
+module _ (number : ℕ) (o : Outcome) (buffer : List ℕ) {left : List ℕ} {gone : Gone} (g : Gapped o buffer gone left) where
+  gap-line : lineOf number (gone .number) (gone .order) (take (gone .length) left) ≡ lineTurn number o .text
+  unfolding lineTurn goneBy
+  gap-line = rw (g .answers, g .left-so, take-append-seam (o .reply) (drop (length (o .reply)) buffer))
 
--- a line that fits, and one that does not
-module _ (under : List ℕ) (before : Card) (t : Turn) {left : List ℕ} {count : ℕ} (some : 0 < length (t .text)) (most : length (t .text) ≤ 1024)
-    (l : Lined under (t .text) count left) where
-  written-turned : (count ≡ 0 → ⊥) → Turned under before t (record { count = count; card = t .card; more = t .more }) left
-  unfolding fittingTurn leftBy
-  written-turned n = by (fitsAt under 0 (t .text)) refl where
-    by : (b : Bool) → fitsAt under 0 (t .text) ≡ b → Turned under before t (record { count = count; card = t .card; more = t .more }) left
-    by true fits = (rw fits (record { answers = rw (rw fits at (l .answers)); left-so = rw fits at (l .left-so) }), most)
-    by false fits = absurd (n (rw fits at (l .answers)))
+  gap-card : gone .card ≡ o .card
+  unfolding goneBy
+  gap-card = ap (λ (x : Gone). x .card) (g .answers)
 
-  refused-turned : count ≡ 0 → Turned under before t (record { count = 0; card = before; more = false }) left
-  unfolding fittingTurn leftBy
-  refused-turned e = by (fitsAt under 0 (t .text)) refl where
-    by : (b : Bool) → fitsAt under 0 (t .text) ≡ b → Turned under before t (record { count = 0; card = before; more = false }) left
-    by true fits = absurd (omega (arith, e, rw fits at (l .answers)))
-    by false fits = (rw fits (record { answers = refl; left-so = rw fits at (l .left-so) }), most)
+  gap-most : length left ≤ 261 → length (lineTurn number o .text) ≤ 1024
+  unfolding lineTurn
+  gap-most few =
+      let short : length (o .reply) ≤ 261 = omega (arith, ap length (g .left-so), length-append (o .reply) (drop (length (o .reply)) buffer)) in
+      line-most number (o .number) (o .order) (o .reply) short
 
--- the line of what a gap returned
-module _ (under : List ℕ) (before : Card) (number : ℕ) (gone : Gone) (buffer : List ℕ) {left reply : List ℕ} {count : ℕ} (few : length buffer ≤ 261)
-    (e : reply ≡ take (gone .length) buffer) (l : Lined under (lineOf number (gone .number) (gone .order) reply) count left) where
-  line-lined : Lined under (goneTurn number gone buffer .text) count left
-  unfolding goneTurn
-  line-lined = rw e at l
-
-  line-turned : (count ≡ 0 → ⊥) → Turned under before (goneTurn number gone buffer) (record { count = count; card = gone .card; more = true }) left
-  unfolding goneTurn
-  line-turned n = written-turned under before (goneTurn number gone buffer) (line-some number gone buffer) (line-most number gone buffer few) line-lined n
-
-  line-refused : count ≡ 0 → Turned under before (goneTurn number gone buffer) (record { count = 0; card = before; more = false }) left
-  line-refused n = refused-turned under before (goneTurn number gone buffer) (line-some number gone buffer) (line-most number gone buffer few) line-lined n
-
--- the reply stands in the first octets of the buffer
-gone-turn : (number : ℕ) (o : Outcome) (buffer : List ℕ) {left : List ℕ} {gone : Gone} → Gapped o buffer gone left → goneTurn number gone left ≡ lineTurn number o
-unfolding goneTurn lineTurn goneBy
-gone-turn number o buffer g = rw (g .answers, g .left-so, take-append-seam (o .reply) (drop (length (o .reply)) buffer))
-
--- so of the line of a gap: that it does not fit, and that it does
-module _ (under : List ℕ) (before : Card) (number : ℕ) (o : Outcome) (buffer : List ℕ) {left out : List ℕ} {gone : Gone} {count : ℕ} (g : Gapped o buffer gone left)
-    (few : length left ≤ 261) (l : Lined under (lineOf number (gone .number) (gone .order) (take (gone .length) left)) count out) where
-  pub gap-refused : count ≡ 0 → Turned under before (lineTurn number o) (record { count = 0; card = before; more = false }) out
-  gap-refused n = rw (gone-turn number o buffer g) at (line-refused under before number gone left few refl l n)
-
-  pub gap-turned : (count ≡ 0 → ⊥) → Turned under before (lineTurn number o) (record { count = count; card = gone .card; more = true }) out
-  gap-turned n = rw (gone-turn number o buffer g) at (line-turned under before number gone left few refl l n)
+  pub gap-taken : (under : List ℕ) {out : List ℕ} {count : ℕ} → 1024 ≤ length under → length left ≤ 261
+      → Lined under (lineOf number (gone .number) (gone .order) (take (gone .length) left)) count out
+      → Taken under (lineTurn number o) (record { count = count; card = gone .card; more = true }) out
+  unfolding lineTurn
+  gap-taken under room few l = rw gap-card (written-taken under (lineTurn number o) room (gap-most few) (rw gap-line at l))
 
 -- the head by what it is found to be
-pub head-turned : (under read text : List ℕ) (h : Head) (more : Bool) {left : List ℕ} {r : Left} {found : Head} {card : Card} → card ≡ cardAtPowerOn
-    → found ≡ headFound read → found ≡ h → afterHead h ≡ turnBy text cardAtPowerOn more → Turned under card (turnBy text card more) r left
+pub head-turned : (under read text : List ℕ) (h : Head) (more : Bool) {left : List ℕ} {r : Left} {found : Head} {card : Card} → 1024 ≤ length under
+    → card ≡ cardAtPowerOn → found ≡ headFound read → found ≡ h → afterHead h ≡ turnBy text cardAtPowerOn more → Taken under (turnBy text card more) r left
     → Turned under cardAtPowerOn (headTurn read) r left
 unfolding headTurn
-head-turned under read text h more start e f t p = rw (sym e ∙ f, t) (rw start at p)
+head-turned under read text h more room start e f t p = taken-turned under cardAtPowerOn (headTurn read) room (rw (sym e ∙ f, t) (rw start at p))
 
 -- and a run
-module _ (under : List ℕ) (card : Card) (image clock : List ℕ) (number : ℕ) (octets : List ℕ) {left : List ℕ} {r : Left} {found : Run} where
-  pub run-turned : (x : Run) → found ≡ runFound octets → found ≡ x → Turned under card (afterRun x card image clock number octets) r left
+module _ (under : List ℕ) (card : Card) (image clock : List ℕ) (number : ℕ) (octets : List ℕ) {left : List ℕ} {r : Left} {found : Run} (room : 1024 ≤ length under)
+    (e : found ≡ runFound octets) where
+  pub run-turned : (x : Run) → found ≡ x → Taken under (afterRun x card image clock number octets) r left
       → Turned under card (runTurn card image clock number octets) r left
   unfolding runTurn
-  run-turned x e f p = rw (sym e ∙ f) p
+  run-turned x f p = taken-turned under card (runTurn card image clock number octets) room (rw (sym e ∙ f) p)
 
   -- a whole one: its octets are put in, and a gap follows
-  pub run-answered : {put : List ℕ} {with : Card} → found ≡ runFound octets → found ≡ run.Whole → put ≡ take (length octets) (drop 2 octets)
-      → with ≡ withOctets card put → Turned under card (gapTurn with image clock number) r left
-      → Turned under card (runTurn card image clock number octets) r left
+  pub run-answered : {put : List ℕ} {with : Card} → found ≡ run.Whole → put ≡ take (length octets) (drop 2 octets) → with ≡ withOctets card put
+      → Taken under (gapTurn with image clock number) r left → Turned under card (runTurn card image clock number octets) r left
   unfolding afterRun
-  run-answered {put} e f p w t =
+  run-answered {put} f p w t =
       let all : put ≡ drop 2 octets = p ∙ take-all (length octets) (drop 2 octets) (omega (arith, length-drop 2 octets)) in
-      run-turned run.Whole e f (rw (← all, ← w) t)
+      run-turned run.Whole f (rw (← all, ← w) t)
 
--- of a turn whose text fits and of one whose text does not: what it returns, and what is left
+-- what a turn returns, and what is left: with room, and with a short buffer
 module _ (under : List ℕ) (before : Card) (t : Turn) {left : List ℕ} {r : Left} (p : Turned under before t r left) where
-  -- the result of a text that fits
-  pub whole : length (t .text) ≤ length under → r ≡ leftBy t
-  unfolding fittingTurn fitsAt
-  whole fits = rw (le-leb (0 + length (t .text)) (length under) (omega arith)) at (p .0 .answers)
+  -- all of the turn
+  taken : 1024 ≤ length under → Taken under t r left
+  taken room = rw (roomy-turn under before t room) at p
+
+  pub whole : 1024 ≤ length under → r ≡ leftBy t
+  whole room = taken room .0 .answers
 
   -- the text stands in the first octets
-  pub stands : length (t .text) ≤ length under → take (length (t .text)) left ≡ t .text
-  unfolding fittingTurn fitsAt
-  stands fits =
-      let laid : left ≡ t .text ++ drop (length (t .text)) under =
-      rw (le-leb (0 + length (t .text)) (length under) (omega arith)) at (p .0 .left-so) in
-      rw laid (take-append-seam (t .text) (drop (length (t .text)) under))
+  pub stands : 1024 ≤ length under → take (length (t .text)) left ≡ t .text
+  stands room = rw (taken room .0 .left-so) (take-append-seam (t .text) (drop (length (t .text)) under))
 
-  -- the result of a text that does not fit
-  pub refused : length under < length (t .text) → r ≡ leftBy (lastTurn [] before)
-  unfolding fittingTurn fitsAt
-  refused short = rw (lt-leb (0 + length (t .text)) (length under) (omega arith)) at (p .0 .answers)
+  -- a refusal's result
+  pub refused : length under < 1024 → r ≡ leftBy (lastTurn [] before)
+  refused short = rw (short-turn under before t short) at (p .0 .answers)
 
   -- and what it leaves
-  pub kept : length under < length (t .text) → left ≡ under
-  unfolding fittingTurn fitsAt
-  kept short = rw (lt-leb (0 + length (t .text)) (length under) (omega arith)) at (p .0 .left-so)
+  pub kept : length under < 1024 → left ≡ under
+  kept short = rw (short-turn under before t short) at (p .0 .left-so)
 
-  -- with room for 1,024 octets it always fits: the octets that are counted are the text
+  -- with room for 1,024 octets the octets that are counted are the text, and nothing is refused
   pub roomy : 1024 ≤ length under → (r ≡ leftBy t) × (take (r .count) left ≡ t .text)
   unfolding leftBy
-  roomy room =
-      let fits : length (t .text) ≤ length under = omega (arith, p .1) in
-      let result = whole fits in
-      (result, rw (ap (λ (l : Left). l .count) result) (stands fits))
+  roomy room = (whole room, rw (ap (λ (l : Left). l .count) (whole room)) (stands room))

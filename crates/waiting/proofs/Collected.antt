@@ -18,12 +18,12 @@ use Rattle.data.specs.Portions.{portion, readingPortion, eventsPortion, nextRea
 use Rattle.deeds.specs.declared.Waiting.the-variants.{Begin}
 use Rattle.deeds.specs.declared.Pending.{Pending}
 use Rattle.deeds.specs.Deeds.{nothingPending}
-use Rattle.waiting.specs.NextReply.{asked, given, lastly, nothingFound, readingType, dataPending, mirrorWith, dataFrom, afterData, beginWith, nextOf}
+use Rattle.waiting.specs.NextReply.{asked, firstly, lastly, nothingFound, readingType, dataPending, mirrorWith, dataFrom, afterData, beginWith, nextOf}
 use Rattle.waiting.specs.Collected.{messagesCollected, groupsOf, inGroups, eventsMessage, readingMessage}
 use Rattle.waiting.proofs.Groups.{groups-number, groups-full, groups-order, groups-of-one, ones-number, drop-taken}
 
 -- behind the last reply nothing is given
-nothing-more : (turns : ℕ) (image : List ℕ) → messagesCollected turns nothingPending image ≡ []
+pub nothing-more : (turns : ℕ) (image : List ℕ) → messagesCollected turns nothingPending image ≡ []
 unfolding messagesCollected nextOf nothingPending nothingFound
 nothing-more zero image = refl
 nothing-more (suc turns) image = refl
@@ -71,7 +71,7 @@ module _ (pending : Pending) (image : List ℕ) where
     data-collected : (most before turns : ℕ) (left : List (List ℕ)) → drop before rs ≡ left → length left ≤ most
         → length (groupsOf most (suc less) left) < turns
         → messagesCollected turns (dataPending request (pending .clock) before) image ≡ map f (groupsOf most (suc less) left) ++ (mirrorOf request 0 10 ∷ [])
-    unfolding messagesCollected nextOf dataPending afterData groupsOf given lastly mirrorWith portion
+    unfolding messagesCollected nextOf dataPending afterData groupsOf firstly lastly mirrorWith portion
     data-collected most before zero left e fits few = absurd (omega (arith, few))
     data-collected zero before (suc turns) [] e fits few = rw (gives before, e, nothing-more turns image)
     data-collected zero before (suc turns) (r ∷ left) e fits few = absurd (omega (arith, fits))
@@ -87,7 +87,7 @@ module _ (pending : Pending) (image : List ℕ) where
     -- and mirror 7 before them
     begun-collected : pending .waiting ≡ Begin → (turns : ℕ) → 2 + length (inGroups (suc less) rs) ≤ turns
         → messagesCollected turns pending image ≡ mirrorOf request 0 7 ∷ (map f (inGroups (suc less) rs) ++ (mirrorOf request 0 10 ∷ []))
-    unfolding messagesCollected nextOf beginWith given inGroups
+    unfolding messagesCollected nextOf beginWith firstly inGroups
     begun-collected begin zero enough = absurd (omega (arith, enough))
     begun-collected begin (suc turns) enough =
         rw begin (ap (mirrorOf request 0 7 ∷_) (data-collected (length rs) 0 turns rs refl (omega arith) (omega (arith, enough))))

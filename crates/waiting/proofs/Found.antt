@@ -16,22 +16,22 @@ use Rattle.deeds.specs.declared.Waiting.{Waiting}
 use Rattle.deeds.specs.declared.Waiting.the-variants as waiting
 use Rattle.deeds.specs.Deeds.{isWaiting}
 use Rattle.waiting.specs.declared.Next.{Next}
-use Rattle.waiting.specs.NextReply.{given, lastly, nothingFound, mirrorWith, beginWith, identityFrom, datesFrom, clockFrom, dataFrom, afterData, nextBy}
+use Rattle.waiting.specs.NextReply.{firstly, lastly, nothingFound, mirrorWith, beginWith, identityFrom, datesFrom, clockFrom, dataFrom, afterData, nextBy}
 
 module _ (request : Kept) (clock image : List ℕ) where
   -- 71 and 131, whatever the image has of them
   identity-found : (h : IdentityFound) → identityFrom request h .found ≡ true
-  unfolding mirrorWith lastly given
+  unfolding mirrorWith lastly firstly
   identity-found (head.Is h) = refl
   identity-found head.Nothing = refl
 
   dates-found : (d : DatesFound) → datesFrom request d .found ≡ true
-  unfolding mirrorWith lastly given
+  unfolding mirrorWith lastly firstly
   dates-found (dates.Is d) = refl
   dates-found dates.Nothing = refl
 
   pub found-waiting : (w : Waiting) → nextBy request w clock image .found ≡ isWaiting w
-  unfolding nothingFound mirrorWith lastly given beginWith clockFrom afterData
+  unfolding nothingFound mirrorWith lastly firstly beginWith clockFrom afterData
   found-waiting waiting.NoReply = refl
   found-waiting (waiting.Mirror cause) = refl
   found-waiting waiting.Denied = refl

@@ -29,7 +29,7 @@ use Rattle.deeds.specs.declared.Waiting.the-variants.{NoReply, Mirror, Denied, 
 use Rattle.deeds.specs.declared.Pending.{Pending}
 use Rattle.deeds.specs.Deeds.{nothingPending, isWaiting}
 use Rattle.waiting.specs.declared.Next.{Next}
-use Rattle.waiting.specs.NextReply.{asked, given, lastly, nothingFound, readingType, dataPending, mirrorWith, clockFrom, dataFrom, afterData, beginWith, nextOf}
+use Rattle.waiting.specs.NextReply.{asked, firstly, lastly, nothingFound, readingType, dataPending, mirrorWith, clockFrom, dataFrom, afterData, beginWith, nextOf}
 use Rattle.waiting.proofs.Found.{found-waiting}
 use Rattle.waiting.proofs.next_reply.Reads as next-reply
 
@@ -59,49 +59,49 @@ module _ (κs : Lfts 1) (x : Place) (a b c : ℕ) (rest : List ℕ) (long : ℕ)
   -- mirror 7 where mirror 10 is due
   next-reply-last-seven : (n : ℕ) → dataFrom request image n .many ≡ 0 → cause-there ≡ causeOctet (tOf c) 0 7
       → RuledOut (next-reply.Post κs) (held (More n), (lent x image, tt)) wrong
-  unfolding nextOf afterData mirrorWith lastly given mirrorOf mirror
+  unfolding nextOf afterData mirrorWith lastly firstly mirrorOf mirror
   next-reply-last-seven n none seven s p = omega (arith, ap (λ (next : Next). getD (next .message .octets) 2 0) (rw none at p))
 
   -- mirror 7 with P/N 0 where P/N 1 is due
   next-reply-denied : cause-there ≡ causeOctet (tOf c) 0 7 → RuledOut (next-reply.Post κs) (held Denied, (lent x image, tt)) wrong
-  unfolding nextOf mirrorWith lastly given mirrorOf mirror
+  unfolding nextOf mirrorWith lastly firstly mirrorOf mirror
   next-reply-denied zero s p = omega (arith, ap (λ (next : Next). getD (next .message .octets) 2 0) p)
 
   -- a mirror with P/N 1 where P/N 0 is due, whatever the cause
   next-reply-mirror-pn : (cause : ℕ) → cause-there ≡ causeOctet (tOf c) 1 (cause % 64)
       → RuledOut (next-reply.Post κs) (held (Mirror cause), (lent x image, tt)) wrong
-  unfolding nextOf mirrorWith lastly given mirrorOf mirror
+  unfolding nextOf mirrorWith lastly firstly mirrorOf mirror
   next-reply-mirror-pn cause one s p = omega (arith, ap (λ (next : Next). getD (next .message .octets) 2 0) p)
 
   -- a mirror that loses T, whatever the cause
   next-reply-mirror-t : (cause : ℕ) → tOf c ≡ 1 → cause-there ≡ causeOctet 0 0 (cause % 64)
       → RuledOut (next-reply.Post κs) (held (Mirror cause), (lent x image, tt)) wrong
-  unfolding nextOf mirrorWith lastly given mirrorOf mirror
+  unfolding nextOf mirrorWith lastly firstly mirrorOf mirror
   next-reply-mirror-t cause set lost s p = omega (arith, ap (λ (next : Next). getD (next .message .octets) 2 0) p)
 
   -- a mirror that still waits when it has been given
   next-reply-mirror-kept : (cause : ℕ) → isWaiting (wrong .pending .waiting) ≡ true
       → RuledOut (next-reply.Post κs) (held (Mirror cause), (lent x image, tt)) wrong
-  unfolding nextOf mirrorWith lastly given mirrorOf mirror nothingPending
+  unfolding nextOf mirrorWith lastly firstly mirrorOf mirror nothingPending
   next-reply-mirror-kept cause kept s p = false≢true (sym (ap (λ (next : Next). isWaiting (next .pending .waiting)) p) ∙ kept)
 
   -- a mirror with another type than the request's
   next-reply-mirror-octet : (cause : ℕ) → (getD (wrong .message .octets) 0 0 ≡ a → ⊥)
       → RuledOut (next-reply.Post κs) (held (Mirror cause), (lent x image, tt)) wrong
-  unfolding nextOf mirrorWith lastly given mirrorOf mirror
+  unfolding nextOf mirrorWith lastly firstly mirrorOf mirror
   next-reply-mirror-octet cause other s p = other (ap (λ (next : Next). getD (next .message .octets) 0 0) p)
 
   -- no data waiting behind mirror 7
   next-reply-begin : wrong .pending .waiting ≡ NoReply → RuledOut (next-reply.Post κs) (held Begin, (lent x image, tt)) wrong
-  unfolding nextOf beginWith given dataPending
+  unfolding nextOf beginWith firstly dataPending
   next-reply-begin none s p = never (cc (ap (λ (next : Next). next .pending .waiting) p))
 
   -- a count that stays though data is given, so that the same is given for ever
   next-reply-count : (n : ℕ) → 0 < dataFrom request image n .many → wrong .pending .waiting ≡ More n
       → RuledOut (next-reply.Post κs) (held (More n), (lent x image, tt)) wrong
-  unfolding nextOf afterData given dataPending
+  unfolding nextOf afterData firstly dataPending
   next-reply-count n some stays s p =
-      let handed : wrong ≡ given (dataFrom request image n .message) (dataPending request clock (n + dataFrom request image n .many)) =
+      let handed : wrong ≡ firstly (dataFrom request image n .message) (dataPending request clock (n + dataFrom request image n .many)) =
       rw (ne-eqb (dataFrom request image n .many) 0 (λ e. omega arith)) at p in
       let same : n + dataFrom request image n .many ≡ n = cc (ap (λ (next : Next). next .pending .waiting) handed) in
       omega arith
@@ -110,22 +110,22 @@ module _ (κs : Lfts 1) (x : Place) (a b c : ℕ) (rest : List ℕ) (long : ℕ)
   next-reply-122 : (n : ℕ) (r : List ℕ) (rs : List (List ℕ)) → asked request .header .«type_id» ≡ 122
       → drop n (choice (Reading (spanOf (asked request))) image) ≡ r ∷ rs → getD (wrong .message .octets) 0 0 ≡ 11
       → RuledOut (next-reply.Post κs) (held (More n), (lent x image, tt)) wrong
-  unfolding nextOf afterData given dataFrom readingType nextReading readingPortion portion keptOf over readingReply replyHeader headerOctets
+  unfolding nextOf afterData firstly dataFrom readingType nextReading readingPortion portion keptOf over readingReply replyHeader headerOctets
   next-reply-122 n r rs type left eleven s p = omega (arith, ap (λ (next : Next). getD (next .message .octets) 0 0) (rw (left, type) at p))
 
   -- 71 with another maker than the image's
   next-reply-identity : (h : Meter) → identityFound image ≡ head.Is h → (getD (wrong .message .octets) 7 0 ≡ h .maker → ⊥)
       → RuledOut (next-reply.Post κs) (held Type71, (lent x image, tt)) wrong
-  unfolding nextOf lastly given keptOf over identityReply replyHeader headerOctets lowOctets
+  unfolding nextOf lastly firstly keptOf over identityReply replyHeader headerOctets lowOctets
   next-reply-identity h is other s p = other (ap (λ (next : Next). getD (next .message .octets) 7 0) (rw is at p))
 
   -- mirror 13 for a 131 without switch dates
   next-reply-dates : datesFound image ≡ dates.Nothing → cause-there ≡ causeOctet (tOf c) 0 13
       → RuledOut (next-reply.Post κs) (held Type131, (lent x image, tt)) wrong
-  unfolding nextOf mirrorWith lastly given mirrorOf mirror
+  unfolding nextOf mirrorWith lastly firstly mirrorOf mirror
   next-reply-dates none thirteen s p = omega (arith, ap (λ (next : Next). getD (next .message .octets) 2 0) (rw none at p))
 
   -- type 71 where 72 waits
   next-reply-clock : getD (wrong .message .octets) 0 0 ≡ 71 → RuledOut (next-reply.Post κs) (held Type72, (lent x image, tt)) wrong
-  unfolding nextOf clockFrom lastly given keptOf over clockReply replyHeader headerOctets
+  unfolding nextOf clockFrom lastly firstly keptOf over clockReply replyHeader headerOctets
   next-reply-clock other s p = omega (arith, ap (λ (next : Next). getD (next .message .octets) 0 0) p)

@@ -26,11 +26,11 @@ use Rattle.waiting.specs.declared.Next.{Next}
 use Rattle.deeds.specs.Deeds.{nothingPending}
 
 -- a message that is given, and what waits behind it: the rest, or nothing
-unfoldable pub given : Kept → Pending → Next
-given message rest = record { found = true; message = message; pending = rest }
+unfoldable pub firstly : Kept → Pending → Next
+firstly message rest = record { found = true; message = message; pending = rest }
 
 unfoldable pub lastly : Kept → Next
-lastly message = given message nothingPending
+lastly message = firstly message nothingPending
 
 unfoldable pub nothingFound : Next
 nothingFound = record { found = false; message = keptOf []; pending = nothingPending }
@@ -74,11 +74,11 @@ module _ (request : Kept) where
   unfoldable pub afterData : List ℕ → ℕ → Portion → Next
   afterData clock before some =
       if eqb (some .many) 0 then mirrorWith false 10 else
-      given (some .message) (dataPending clock (before + some .many))
+      firstly (some .message) (dataPending clock (before + some .many))
 
   -- mirror 7, then data
   unfoldable pub beginWith : List ℕ → Next
-  beginWith clock = given (mirrorOf request 0 7) (dataPending clock 0)
+  beginWith clock = firstly (mirrorOf request 0 7) (dataPending clock 0)
 
   abbrev pub nextBy : Waiting → List ℕ → List ℕ → Next
   nextBy NoReply clock image = nothingFound

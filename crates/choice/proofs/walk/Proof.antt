@@ -7,7 +7,7 @@ use native.Mathlib.Omega.{arith}
 use lib.ListN.{length}
 use Rattle.records.specs.Records.{placeAfter}
 use Rattle.records.proofs.Records.{stands, stands-not, after-within}
-use Rattle.choice.specs.Choice.{placesFrom, nthPlace}
+use Rattle.choice.specs.Calls.{placesFrom, nthPlace}
 use Rattle.choice.proofs.Chosen.{chosen-there, walk-end, walk-here, walk-skip, walk-pass}
 use Rattle.choice.proofs.walk.Statement.{statement}
 use Rattle.choice.proofs.walk.Tie as tie

@@ -1,7 +1,8 @@
 -- `followed` answers a message with another's octets behind.
 -- The octets that count are a part of its array. Assumes nothing.
 use mathlib.Core.Path.{ap, _∙_}
-use Rattle.octets.specs.Keeping.{octetsOf, added}
+use Rattle.octets.specs.Keeping.{octetsOf}
+use Rattle.octets.specs.Calls.{added}
 use borrow.Author.Needs.{needs}
 use Rattle.data.proofs.followed.Statement.{statement}
 use Rattle.data.proofs.followed.Tie as tie

@@ -30,9 +30,10 @@ link-at-requires c κs = omega (arith, fixed-facts sapr _ (told (c .before .befo
 
 returns-3 : tie.Need-returns-3
 returns-3 c =
+    let summed = c .before .before in
+    let formed = summed .before .before in
     says-fixed _ (search needs) (search needs) _
-    (told (c .before .before .before .before .before .fixed-form .ensures) (c .before .before .before .before .if3 .taken))
-    (told (c .before .before .before .sum-right .ensures) (c .before .before .if4 .taken)) (c .link-at .ensures)
+    (told (formed .before .fixed-form .ensures) (formed .if3 .taken)) (told (summed .before .sum-right .ensures) (summed .if4 .taken)) (c .link-at .ensures)
 
 returns-4 : tie.Need-returns-4
 returns-4 c = says-spoiled-fixed _ (search needs) (search needs) (told (c .before .before .before .fixed-form .ensures) (c .before .before .if3 .taken)) (told (c .before .sum-right .ensures) (c .if4 .left))
@@ -50,19 +51,28 @@ link-at-requires-2 : tie.Need-link-at-requires-2
 link-at-requires-2 c κs = let h = variable-facts sapr _ (told (c .before .before .before .before .variable-form .ensures) (c .before .before .before .if5 .taken)) in omega (arith, h .long, h .least)
 
 sub-t17 : tie.Need-sub-t17
-sub-t17 c = let h = variable-facts sapr _ (told (c .before .before .before .before .before .variable-form .ensures) (c .before .before .before .before .if5 .taken)) in omega (arith, h .long, h .least)
+sub-t17 c =
+    let formed = c .before .before .before .before in
+    let h = variable-facts sapr _ (told (formed .before .variable-form .ensures) (formed .if5 .taken)) in
+    omega (arith, h .long, h .least)
 
 cast-t18 : tie.Need-cast-t18
 cast-t18 c = search needs
 
 returns-5 : tie.Need-returns-5
 returns-5 c =
-    says-variable _ (search needs) (search needs) _ _ (told (c .before .before .before .before .before .before .before .fixed-form .ensures) (c .before .before .before .before .before .before .if3 .left))
-    (told (c .before .before .before .before .before .variable-form .ensures) (c .before .before .before .before .if5 .taken))
-    (told (c .before .before .before .sum-right2 .ensures) (c .before .before .if6 .taken)) (c .link-at2 .ensures) refl
+    let summed = c .before .before in
+    let formed = summed .before .before in
+    let other = formed .before .before in
+    says-variable _ (search needs) (search needs) _ _ (told (other .before .fixed-form .ensures) (other .if3 .left))
+    (told (formed .before .variable-form .ensures) (formed .if5 .taken)) (told (summed .before .sum-right2 .ensures) (summed .if6 .taken)) (c .link-at2 .ensures) refl
 
 returns-6 : tie.Need-returns-6
-returns-6 c = says-spoiled-variable _ (search needs) (search needs) (told (c .before .before .before .before .before .fixed-form .ensures) (c .before .before .before .before .if3 .left)) (told (c .before .before .before .variable-form .ensures) (c .before .before .if5 .taken)) (told (c .before .sum-right2 .ensures) (c .if6 .left))
+returns-6 c =
+    let formed = c .before .before in
+    let other = formed .before .before in
+    says-spoiled-variable _ (search needs) (search needs) (told (other .before .fixed-form .ensures) (other .if3 .left))
+    (told (formed .before .variable-form .ensures) (formed .if5 .taken)) (told (c .before .sum-right2 .ensures) (c .if6 .left))
 
 returns-7 : tie.Need-returns-7
 returns-7 c = rw (judge-malformed sapr _ (search needs) (search needs) (told (c .before .before .before .fixed-form .ensures) (c .before .before .if3 .left)) (told (c .before .variable-form .ensures) (c .if5 .left)))

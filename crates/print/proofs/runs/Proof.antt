@@ -1,5 +1,5 @@
 -- `runs` takes turn after turn, until the input ends.
--- The run number grows to its limit; the space keeps its length. Assumes nothing.
+-- The run number grows to its limit; the space, the block and the text keep their lengths. Assumes nothing.
 use Prim.Native.Nat.{_-_}
 use mathlib.Core.Path.{_≡_}
 use borrow.Author.Needs.{needs}
@@ -8,10 +8,11 @@ use Rattle.print.proofs.runs.Statement.{statement}
 use Rattle.print.proofs.runs.Tie as tie
 
 abbrev Inv-loop : tie.InvT-loop
-Inv-loop head space₀ card₀ window₀ number₀ space card window number = length space ≡ length space₀
+Inv-loop head space₀ block₀ text₀ talk₀ number₀ space block text talk number =
+    (length space ≡ length space₀) × (length block ≡ length block₀) × (length text ≡ length text₀)
 
 abbrev μ-loop : tie.MeasureT-loop
-μ-loop head space₀ card₀ window₀ number₀ space card window number = 18446744073709551615 - number
+μ-loop head space₀ block₀ text₀ talk₀ number₀ space block text talk number = 18446744073709551615 - number
 
 loop-holds : tie.Need-loop-holds Inv-loop μ-loop
 loop-holds c = search needs
@@ -19,23 +20,8 @@ loop-holds c = search needs
 add-number : tie.Need-add-number Inv-loop μ-loop
 add-number c = search needs
 
-read-run-requires : tie.Need-read-run-requires Inv-loop μ-loop
-read-run-requires c κs = search needs
-
-seen-requires : tie.Need-seen-requires Inv-loop μ-loop
-seen-requires c κs = search needs
-
-run-size-requires : tie.Need-run-size-requires Inv-loop μ-loop
-run-size-requires c κs = search needs
-
-part-requires : tie.Need-part-requires Inv-loop μ-loop
-part-requires c κs = search needs
-
-step-requires : tie.Need-step-requires Inv-loop μ-loop
-step-requires c κs = search needs
-
-taken-requires : tie.Need-taken-requires Inv-loop μ-loop
-taken-requires c κs = search needs
+turn-requires : tie.Need-turn-requires Inv-loop μ-loop
+turn-requires c κs = search needs
 
 loop-less : tie.Need-loop-less Inv-loop μ-loop
 loop-less c = search needs
@@ -46,11 +32,23 @@ loop-again c = search needs
 same-length : tie.Need-same-length Inv-loop μ-loop
 same-length c = search needs
 
+same-length-2 : tie.Need-same-length-2 Inv-loop μ-loop
+same-length-2 c = search needs
+
+same-length-3 : tie.Need-same-length-3 Inv-loop μ-loop
+same-length-3 c = search needs
+
 returns : tie.Need-returns Inv-loop μ-loop
 returns c = search needs
 
-same-length-2 : tie.Need-same-length-2 Inv-loop μ-loop
-same-length-2 c = search needs
+same-length-4 : tie.Need-same-length-4 Inv-loop μ-loop
+same-length-4 c = search needs
+
+same-length-5 : tie.Need-same-length-5 Inv-loop μ-loop
+same-length-5 c = search needs
+
+same-length-6 : tie.Need-same-length-6 Inv-loop μ-loop
+same-length-6 c = search needs
 
 returns-2 : tie.Need-returns-2 Inv-loop μ-loop
 returns-2 c = search needs
@@ -63,15 +61,14 @@ runs-spec =
     μ-loop
     loop-holds
     add-number
-    read-run-requires
-    seen-requires
-    run-size-requires
-    part-requires
-    step-requires
-    taken-requires
+    turn-requires
     loop-less
     loop-again
     same-length
-    returns
     same-length-2
+    same-length-3
+    returns
+    same-length-4
+    same-length-5
+    same-length-6
     returns-2)

@@ -1,47 +1,61 @@
--- `begin` answers what both lines begin with.
--- Part after part, 47 octets at most. Assumes nothing.
+-- `begin` writes what both lines begin with.
+-- Part behind part, 47 octets at most. Assumes nothing.
+use native.Mathlib.Omega.{arith}
+use lib.ListN.{length-append}
+use Rattle.printing.specs.Line.{beginning}
+use Rattle.printing.proofs.Text.{decimal-length}
 use Rattle.printing.proofs.Lines.{begun}
 use borrow.Author.Needs.{needs}
 use Rattle.printing.proofs.begin.Statement.{statement}
 use Rattle.printing.proofs.begin.Tie as tie
 
-new-requires : tie.Need-new-requires
-new-requires c κs = search needs
+put-number-requires : tie.Need-put-number-requires
+put-number-requires c κs = search needs
 
-with-number-requires : tie.Need-with-number-requires
-with-number-requires c κs = search needs
+slice-aggregate-put-part : tie.Need-slice-aggregate-put-part
+slice-aggregate-put-part c = search needs
 
-slice-aggregate-with : tie.Need-slice-aggregate-with
-slice-aggregate-with c = search needs
+put-part-requires : tie.Need-put-part-requires
+put-part-requires c κs = omega (arith, decimal-length (c .before .before .before .before .before .before .before .args .first))
 
-with-requires : tie.Need-with-requires
-with-requires c κs = search needs
+put-number-requires-2 : tie.Need-put-number-requires-2
+put-number-requires-2 c κs = omega (arith, decimal-length (c .before .before .before .before .before .before .before .before .before .before .before .args .first))
 
-with-number-requires-2 : tie.Need-with-number-requires-2
-with-number-requires-2 c κs = search needs
+slice-aggregate-put-part-2 : tie.Need-slice-aggregate-put-part-2
+slice-aggregate-put-part-2 c = search needs
 
-slice-aggregate-with-2 : tie.Need-slice-aggregate-with-2
-slice-aggregate-with-2 c = search needs
+put-part-requires-2 : tie.Need-put-part-requires-2
+put-part-requires-2 c κs =
+    let a = c .before .before .before .before .before .before .before .before .before .before .before .before .before .before .before .before .args in
+    omega (arith, decimal-length (a .first), decimal-length (a .second))
 
-with-requires-2 : tie.Need-with-requires-2
-with-requires-2 c κs = search needs
+put-word-requires : tie.Need-put-word-requires
+put-word-requires c κs =
+    let a = c .before .before .before .before .before .before .before .before .before .before .before .before .before .before .before .before .before .before .before .before .args in
+    omega (arith, decimal-length (a .first), decimal-length (a .second))
 
-with-word-requires : tie.Need-with-word-requires
-with-word-requires c κs = search needs
+same-length : tie.Need-same-length
+same-length c = search needs
 
 returns : tie.Need-returns
-returns c = begun _ _ _ (c .before .before .before .before .before .before .before .new .ensures) (c .before .before .before .before .before .before .with-number .ensures) (c .before .before .before .before .with .ensures) (c .before .before .before .with-number2 .ensures) (c .before .with2 .ensures) (c .with-word .ensures) .is
+unfolding beginning
+returns c =
+    let a = c .before .before .before .before .before .before .before .before .before .before .before .before .before .before .before .before .before .before .before .before .before .before .before .args in
+    record {
+      ends = simp length-append (omega arith);
+      stands = begun (a .first) (a .second) (a .order) (c .before .before .before .before .before .before .before .before .before .before .before .before .before .before .before .before .before .before .before .before .put-number .ensures .stands) (c .before .before .before .before .before .before .before .before .before .before .before .before .before .before .before .put-part .ensures .stands) (c .before .before .before .before .before .before .before .before .before .before .before .put-number2 .ensures .stands) (c .before .before .before .before .before .before .put-part2 .ensures .stands) (c .before .before .put-word .ensures .stands) .is;
+    }
 
 pub begin-spec : {M : Type 1} → statement M
 begin-spec =
     tie.close
     (tie.spec
-    new-requires
-    with-number-requires
-    slice-aggregate-with
-    with-requires
-    with-number-requires-2
-    slice-aggregate-with-2
-    with-requires-2
-    with-word-requires
+    put-number-requires
+    slice-aggregate-put-part
+    put-part-requires
+    put-number-requires-2
+    slice-aggregate-put-part-2
+    put-part-requires-2
+    put-word-requires
+    same-length
     returns)

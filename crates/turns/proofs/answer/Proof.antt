@@ -1,8 +1,8 @@
 -- `answer` writes the line of a gap that is lent 261 octets.
--- By what the gap returns and leaves; a count of 0 says that the line does not fit. Assumes nothing.
-use Rattle.turns.specs.Printed.{gapTurn}
-use Rattle.turns.proofs.Turning.{gap-refused, gap-turned}
+-- By what the gap returns and leaves; there is room for the line. Assumes nothing.
 use borrow.Author.Needs.{needs}
+use Rattle.turns.specs.Printed.{gapTurn}
+use Rattle.turns.proofs.Turning.{gap-taken}
 use Rattle.turns.proofs.answer.Statement.{statement}
 use Rattle.turns.proofs.answer.Tie as tie
 
@@ -23,14 +23,8 @@ same-length c = search needs
 
 returns : tie.Need-returns
 unfolding gapTurn
-returns c = gap-refused _ _ _ _ _ (c .before .before .before .before .before .before .before .before .gap .ensures) (search needs) (c .before .before .before .line .ensures) (c .if1 .taken)
-
-same-length-2 : tie.Need-same-length-2
-same-length-2 c = search needs
-
-returns-2 : tie.Need-returns-2
-unfolding gapTurn
-returns-2 c = gap-turned _ _ _ _ _ (c .before .before .before .before .before .before .before .before .gap .ensures) (search needs) (c .before .before .before .line .ensures) (c .if1 .left)
+returns c =
+    gap-taken _ _ _ (c .before .before .before .before .before .before .before .gap .ensures) _ (search needs) (search needs) (c .before .before .line .ensures)
 
 pub answer-spec : {M : Type 1} → statement M
 answer-spec =
@@ -41,6 +35,4 @@ answer-spec =
     slice-aggregate-line
     line-requires
     same-length
-    returns
-    same-length-2
-    returns-2)
+    returns)

@@ -1,7 +1,7 @@
 -- `said` writes a last text.
--- The card is as it was, also where the text does not fit. Assumes nothing.
+-- There is room for it. Assumes nothing.
 use borrow.Author.Needs.{needs}
-use Rattle.turns.proofs.Turning.{said-turned}
+use Rattle.turns.proofs.Turning.{written-taken}
 use Rattle.turns.proofs.said.Statement.{statement}
 use Rattle.turns.proofs.said.Tie as tie
 
@@ -12,7 +12,7 @@ same-length : tie.Need-same-length
 same-length c = search needs
 
 returns : tie.Need-returns
-returns c = said-turned _ _ _ (search needs) (c .before .before .put-text .ensures)
+returns c = written-taken _ _ (search needs) (search needs) (c .before .before .put-text .ensures)
 
 pub said-spec : {M : Type 1} → statement M
 said-spec = tie.close (tie.spec put-text-requires same-length returns)

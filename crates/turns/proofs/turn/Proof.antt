@@ -1,11 +1,17 @@
 -- `turn` writes the text of a run.
--- By what the run is found to be. Assumes nothing.
+-- By whether the buffer is short, and what the run is found to be. Assumes nothing.
 use borrow.Author.Needs.{needs}
 use Rattle.input.specs.declared.Run.the-variants as run
 use Rattle.turns.specs.Printed.{afterRun}
-use Rattle.turns.proofs.Turning.{run-turned, run-answered}
+use Rattle.turns.proofs.Turning.{short-turned, run-turned, run-answered}
 use Rattle.turns.proofs.turn.Statement.{statement}
 use Rattle.turns.proofs.turn.Tie as tie
+
+refused-requires : tie.Need-refused-requires
+refused-requires c κs = search needs
+
+returns : tie.Need-returns
+returns c = short-turned _ _ _ (c .before .if1 .taken) (c .refused .ensures)
 
 judge-run-requires : tie.Need-judge-run-requires
 judge-run-requires c κs = search needs
@@ -43,35 +49,40 @@ answer-requires c κs = search needs
 same-length : tie.Need-same-length
 same-length c = search needs
 
-returns : tie.Need-returns
-unfolding afterRun
-returns c =
-    let found = c .before .before .before .before .before in
-    run-turned _ _ _ _ _ _ run.End (found .before .before .judge-run .ensures) (found .enum-told .given .1) (c .before .before .said .ensures)
-
-same-length-2 : tie.Need-same-length-2
-same-length-2 c = search needs
-
 returns-2 : tie.Need-returns-2
 unfolding afterRun
 returns-2 c =
     let found = c .before .before .before .before .before in
-    run-turned _ _ _ _ _ _ run.Cut (found .before .before .judge-run .ensures) (found .enum-told2 .given .1) (c .before .before .said2 .ensures)
+    let judged = found .before .before in
+    run-turned _ _ _ _ _ _ (judged .before .if1 .left) (judged .judge-run .ensures) run.End (found .enum-told .given .1) (c .before .before .said .ensures)
+
+same-length-2 : tie.Need-same-length-2
+same-length-2 c = search needs
+
+returns-3 : tie.Need-returns-3
+unfolding afterRun
+returns-3 c =
+    let found = c .before .before .before .before .before in
+    let judged = found .before .before in
+    run-turned _ _ _ _ _ _ (judged .before .if1 .left) (judged .judge-run .ensures) run.Cut (found .enum-told2 .given .1) (c .before .before .said2 .ensures)
 
 same-length-3 : tie.Need-same-length-3
 same-length-3 c = search needs
 
-returns-3 : tie.Need-returns-3
-returns-3 c =
+returns-4 : tie.Need-returns-4
+returns-4 c =
     let put = c .before .before .before in
     let found = put .before .before .before in
-    run-answered _ _ _ _ _ _ (found .before .before .judge-run .ensures) (found .enum-told3 .given .1) (put .before .part .ensures) (put .octets .ensures)
+    let judged = found .before .before in
+    run-answered _ _ _ _ _ _ (judged .before .if1 .left) (judged .judge-run .ensures) (found .enum-told3 .given .1) (put .before .part .ensures) (put .octets .ensures)
     (c .before .before .answer .ensures)
 
 pub turn-spec : {M : Type 1} → statement M
 turn-spec =
     tie.close
     (tie.spec
+    refused-requires
+    returns
     judge-run-requires
     enum-told
     slice-aggregate-said
@@ -84,8 +95,8 @@ turn-spec =
     octets-requires
     answer-requires
     same-length
-    returns
-    same-length-2
     returns-2
+    same-length-2
+    returns-3
     same-length-3
-    returns-3)
+    returns-4)

@@ -1,6 +1,6 @@
 -- `begin` answers mirror 7, and that data waits.
 -- By its parts. Assumes nothing.
-use Rattle.waiting.specs.NextReply.{given, beginWith}
+use Rattle.waiting.specs.NextReply.{firstly, beginWith}
 use borrow.Author.Needs.{needs}
 use Rattle.waiting.proofs.begin.Statement.{statement}
 use Rattle.waiting.proofs.begin.Tie as tie
@@ -12,7 +12,7 @@ data-requires : tie.Need-data-requires
 data-requires c κs = search needs
 
 returns : tie.Need-returns
-unfolding beginWith given
+unfolding beginWith firstly
 returns c = rw (c .«data» .ensures, c .before .mirrored .ensures)
 
 pub begin-spec : {M : Type 1} → statement M

@@ -1,6 +1,7 @@
 -- `Rule::deed` answers what a message does by a rule.
 -- By the rule. Assumes nothing.
 use Prim.Native.Nat.{ℕ}
+use mathlib.Core.Bool.{Bool}
 use mathlib.Core.List.{List, [], _∷_}
 use mathlib.Core.Path.{_≡_, refl}
 use types.Run.{OneOf, miss}
@@ -9,7 +10,7 @@ use Rattle.message.specs.declared.Deed.{Deed}
 use Rattle.message.specs.declared.Deed.the-variants.{Refused}
 use Rattle.rules.proofs.Rule.{the-type}
 use Rattle.rules.specs.declared.Rule.{Rule}
-use Rattle.rules.proofs.Rules.{Ruled, accepts, shuts-out, refuses, ruled}
+use Rattle.rules.proofs.Rules.{Ruled, accepts, shuts-out, wrong-time, refuses, ruled}
 use borrow.Author.Needs.{needs}
 use Rattle.rules.proofs.Rule.deed.Statement.{statement}
 use Rattle.rules.proofs.Rule.deed.Tie as tie
@@ -24,10 +25,11 @@ abbrev others : List ℕ
 others = 0 ∷ 1 ∷ 2 ∷ 3 ∷ 4 ∷ 5 ∷ 6 ∷ 7 ∷ 8 ∷ 9 ∷ 10 ∷ 11 ∷ 12 ∷ 13 ∷ 14 ∷ 15 ∷ 16 ∷ []
 
 -- every other rule
-refused : {rule : Rule} {its deed : Deed} → Ruled its rule deed → OneOf others (tagOf the-type rule) → Refused ≡ deed
+refused : {its : Deed} {rule : Rule} {said : ℕ × Bool × Deed} → Ruled its rule said → OneOf others (tagOf the-type rule) → Refused ≡ said .2
 refused accepts o = absurd (miss others 18 tt o)
 refused shuts-out o = absurd (miss others 17 tt o)
-refused refuses o = refl
+refused wrong-time o = refl
+refused (refuses small) o = refl
 
 returns : tie.Need-returns
 returns c = rw (c .enum-told .given .1)
