@@ -30,8 +30,8 @@ filled-one κs a r r′ s s′ (enough, e) (_, f) =
 -- where a text fits behind those that wait, and others follow
 tell-one : OneOutcome (λ κs s. now (s .0)) (λ κs a r s. (fitsAt (now (a .0)) (a .1 .0 .count) (now (a .1 .1 .0)) ≡ true) × (a .1 .1 .1 .0 ≡ true) × tell.Post κs a r s)
 tell-one κs a r r′ s s′ (fits, more, e) (_, _, f) =
-    (one-outcome (e .goes-on more .count-behind fits) (f .goes-on more .count-behind fits), one-outcome (e .goes-on more .left-behind fits) (f .goes-on more .left-behind fits))
+    (one-outcome (e .goes-on more .count-behind fits) (f .goes-on more .count-behind fits), one-outcome (e .left-so) (f .left-so))
 
--- and where none follows, of what still waits: nothing does
-tell-last-one : OneResult (λ κs a r s. (a .1 .1 .1 .0 ≡ false) × tell.Post κs a r s)
-tell-last-one κs a r r′ s s′ (last, e) (_, f) = one-outcome (e .ends last) (f .ends last)
+-- and where none follows
+tell-last-one : OneOutcome (λ κs s. now (s .0)) (λ κs a r s. (a .1 .1 .1 .0 ≡ false) × tell.Post κs a r s)
+tell-last-one κs a r r′ s s′ (last, e) (_, f) = (one-outcome (e .ends last) (f .ends last), one-outcome (e .left-so) (f .left-so))

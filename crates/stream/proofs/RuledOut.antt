@@ -100,11 +100,15 @@ module _ (κs : Lfts 1) (x : Place) (space : List ℕ) (w r : Window) (size : �
 module _ (κs : Lfts 1) (x : Place) (block : List ℕ) (texts : Texts) (going : Bool) where
   -- what waited still waiting
   out-waiting : 0 < texts .count → RuledOut (out.Post κs) (lent x block, (texts, tt)) (waiting (texts .count) going)
-  out-waiting some s p = omega arith
+  out-waiting some s p = omega (arith, p .none-waits)
 
   -- one octet still waiting
   out-one : RuledOut (out.Post κs) (lent x block, (texts, tt)) (waiting 1 going)
-  out-one s p = omega arith
+  out-one s p = omega (arith, p .none-waits)
+
+  -- what has stopped going on
+  out-resumed : texts .going ≡ false → RuledOut (out.Post κs) (lent x block, (texts, tt)) (waiting 0 true)
+  out-resumed stopped s p = true≢false (p .stays-stopped stopped)
 
 -- a text of one octet more in a block of two
 module _ (κs : Lfts 2) (x y : Place) (a b c : ℕ) (going : Bool) where
@@ -117,7 +121,7 @@ module _ (κs : Lfts 2) (x y : Place) (a b c : ℕ) (going : Bool) where
   tell-over : (a ≡ c → ⊥)
       → RuledOutWith (λ s. now (s .0)) (tell.Post κs) (lent x (a ∷ b ∷ []), (waiting 1 going, (lent y (c ∷ []), (true, tt)))) (waiting 2 going) (c ∷ b ∷ [])
   unfolding fitsAt over
-  tell-over n s e p = n (cc (p .goes-on refl .left-behind refl))
+  tell-over n s e p = n (cc (p .left-so))
 
   -- a text that does not fit behind the others, dropped
   tell-lost : RuledOut (tell.Post κs) (lent x (a ∷ b ∷ []), (waiting 2 going, (lent y (c ∷ []), (true, tt)))) (waiting 0 going)
@@ -132,3 +136,9 @@ module _ (κs : Lfts 2) (x y : Place) (a b c : ℕ) (going : Bool) where
   -- the last text still waiting
   tell-last : RuledOut (tell.Post κs) (lent x (a ∷ b ∷ []), (waiting 1 going, (lent y (c ∷ []), (false, tt)))) (waiting 2 going)
   tell-last s p = omega (arith, ap (λ (r : Texts). r .count) (p .ends refl))
+
+  -- the last text told, and another left in the block, whenever they differ
+  tell-last-over : (a ≡ c → ⊥) → RuledOutWith (λ s. now (s .0)) (tell.Post κs) (lent x (a ∷ b ∷ []), (waiting 1 going, (lent y (c ∷ []), (false, tt)))) (waiting 0 false)
+      (c ∷ b ∷ [])
+  unfolding fitsAt over
+  tell-last-over n s e p = n (cc (p .left-so))

@@ -5,7 +5,7 @@ ghost use Prim.Native.Nat.{_+_, _-_, _≤_};
 ghost use mathlib.Core.Path.{_≡_};
 ghost use lib.ListN.{length, take, drop};
 ghost use Rattle.octets.specs.Over.{over};
-ghost use Rattle.stream.specs.Texts.{AddedFirst, Added, Told};
+ghost use Rattle.stream.specs.Texts.{Out, AddedFirst, Added, Told};
 ghost use Rattle.stream.specs.Window.{countOf, seenIn, takenOf, hasIn, Kept, Filled};
 
 // What has been read and not taken yet: the octets of a space from one index to another.
@@ -134,9 +134,9 @@ fn say(text: &[u8]) -> bool
     io::write_all(1, text)
 }
 
-// What waits is written, and nothing waits. Whether it could be written is the world's answer.
+// What waits is written, and nothing waits. Whether it could be written is the world's answer; once something could not, nothing goes on.
 pub fn out(block: &[u8], texts: Texts) -> Texts
-    ensures { λ r. ⌜ r .count ≡ 0 ⌝ }
+    ensures { λ r. ⌜ Out texts r ⌝ }
 {
     if say(octets::part(block, 0, texts.count)) {
         return Texts {
@@ -152,7 +152,7 @@ pub fn out(block: &[u8], texts: Texts) -> Texts
 
 // What waits is written, and a text is the first that waits. One that is longer than the block is refused.
 fn add_first(block: &mut [u8], texts: Texts, text: &[u8]) -> Texts
-    ensures { λ r. ⌜ AddedFirst (now (block .entry)) (now (text .entry)) r (now (block .exit)) ⌝ }
+    ensures { λ r. ⌜ AddedFirst (now (block .entry)) texts (now (text .entry)) r (now (block .exit)) ⌝ }
 {
     let before = out(block, texts);
     if octets::put(block, 0, text) {

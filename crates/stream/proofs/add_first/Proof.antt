@@ -15,13 +15,13 @@ same-length : tie.Need-same-length
 same-length c = search needs
 
 returns : tie.Need-returns
-returns c = first-waits _ _ (c .before .before .before .put .ensures) (c .if1 .taken) _
+returns c = first-waits _ _ _ (c .before .before .before .put .ensures) (c .if1 .taken) _ (c .before .before .before .before .before .out .ensures .stays-stopped)
 
 same-length-2 : tie.Need-same-length-2
 same-length-2 c = search needs
 
 returns-2 : tie.Need-returns-2
-returns-2 c = first-refused _ _ (c .before .before .before .put .ensures) (c .if1 .left)
+returns-2 c = first-refused _ _ _ (c .before .before .before .put .ensures) (c .if1 .left)
 
 pub add-first-spec : {M : Type 1} → statement M
 add-first-spec =

@@ -13,7 +13,7 @@ same-length : tie.Need-same-length
 same-length c = search needs
 
 returns : tie.Need-returns
-returns c = record { goes-on = λ _. c .before .before .before .add .ensures; ends = λ last. absurd (not-both last (c .if1 .taken)) }
+returns c = record { left-so = c .before .before .before .add .ensures .left-so; goes-on = λ _. c .before .before .before .add .ensures; ends = λ last. absurd (not-both last (c .if1 .taken)) }
 
 out-requires : tie.Need-out-requires
 out-requires c κs = search needs
@@ -22,7 +22,7 @@ same-length-2 : tie.Need-same-length-2
 same-length-2 c = search needs
 
 returns-2 : tie.Need-returns-2
-returns-2 c = record { goes-on = λ more. absurd (not-both (c .before .before .if1 .left) more); ends = λ _. refl }
+returns-2 c = record { left-so = c .before .before .before .before .before .add .ensures .left-so; goes-on = λ more. absurd (not-both (c .before .before .if1 .left) more); ends = λ _. refl }
 
 pub tell-spec : {M : Type 1} → statement M
 tell-spec =
