@@ -17,10 +17,9 @@ use Rattle.card.specs.Gap.{gapped}
 use Rattle.input.specs.declared.Call.{Call}
 use Rattle.input.specs.declared.Call.the-variants as call
 use Rattle.input.specs.Input.{callSize, callFound}
-use Rattle.printing.specs.Text.{decimal, pairs}
-use Rattle.printing.specs.Line.{space, newline, beginning, timeText, gapLine}
-use Rattle.printing.proofs.Text.{pairs-length}
-use Rattle.printing.proofs.Lines.{short-gap}
+use Rattle.printing.specs.Line.{beginning, gapLine}
+use Rattle.printing.proofs.Text.{decimal-length, pairs-length}
+use Rattle.printing.proofs.Lines.{word-length, time-length}
 use Rattle.driving.specs.declared.Held.{Held}
 use Rattle.driving.specs.declared.Left.{Left}
 use Rattle.driving.specs.Driven.{Bench, withImage, withClock, withRoom, withCard, withBuffer, imageOf}
@@ -96,11 +95,10 @@ image-fits rest e = omega (arith, image-most rest e, length-take (callSize rest)
 -- the line of a gap is short
 line-length : (number count : ℕ) (order : Order) (time : List ℕ) (damaged : ℕ) (buffer : List ℕ)
     → length (gapLine number count order time damaged buffer) ≤ 91 + length buffer * 2
-unfolding gapLine
+unfolding gapLine beginning
 line-length number count order time damaged buffer =
-    let front = beginning number count order ++ space ++ timeText order time ++ space ++ decimal damaged ++ space in
-    let short : length front ≤ 90 = short-gap number count order time damaged refl refl refl refl refl refl .least in
-    omega (arith, length-append (front ++ pairs [] buffer) newline, length-append front (pairs [] buffer), pairs-length [] buffer)
+    simp length-append
+    (omega (arith, decimal-length number, decimal-length count, word-length order, time-length order time, decimal-length damaged, pairs-length [] buffer))
 
 -- so the program's 1,024 octets have room for every text
 text-call : (x : Call) (b : Bench) (octets : List ℕ) → length (afterCall x b octets .bench .buffer) ≤ 300 → length (afterCall x b octets .text) ≤ 1024

@@ -2,7 +2,7 @@
 -- By recursion on the places and on the octets. Assumes nothing.
 use Prim.Native.Nat.{ℕ, zero, suc, _+_, _-_, _*_, _/_, _%_, _^_, _≤_, _<_}
 use mathlib.Core.List.{List, [], _∷_, _++_, append-assoc, append-nil}
-use mathlib.Core.Path.{_≡_, refl, sym, ap, _∙_}
+use mathlib.Core.Path.{_≡_, refl, sym, _∙_}
 use native.Mathlib.Nat.{pow-suc, one-le-pow, suc-mul, zero-mul, mod-lt, mod-add-div', mul-le-mul-right}
 use native.Mathlib.Numerals.{add-one}
 use native.Mathlib.Omega.{arith}
@@ -12,9 +12,7 @@ use lib.Dec.{ltb}
 use lib.ListN.{length, take, getD, length-append}
 use lib.Seq.{take-suc}
 use Rattle.io.specs.Digits.{digits, Fewest}
-use Rattle.octets.specs.Over.{over}
 use Rattle.octets.proofs.Choice.{either}
-use Rattle.octets.proofs.Over.{over-none, over-after}
 use Rattle.printing.specs.Text.{figures, decimal, pairOf, pairs}
 
 -- no more figures than places
@@ -70,9 +68,9 @@ digits-figures (suc places) (suc k) n room f =
     last-digit n (figures (suc places) (n / 10)) k
     (digits-figures places k (n / 10) (omega (arith, pow-suc 10 (suc places))) (few-less n k large f)))
 
-pub digits-decimal : (k n : ℕ) → n < 18446744073709551616 → Fewest 10 1 n k → digits 10 k n ≡ decimal n
+pub digits-decimal : (k n : ℕ) {some : List ℕ} → n < 18446744073709551616 → Fewest 10 1 n k × (some ≡ digits 10 k n) → some ≡ decimal n
 unfolding decimal
-digits-decimal k n word f = digits-figures 19 k n (omega arith) f
+digits-decimal k n word f = f .1 ∙ digits-figures 19 k n (omega arith) (f .0)
 
 -- pairs: how many octets they have, and one more behind the first i
 pub pairs-length : (before octets : List ℕ) → length (pairs before octets) ≡ length octets * (length before + 2)
@@ -91,7 +89,7 @@ one-pair : (before : List ℕ) (octet : ℕ) → pairs before (octet ∷ []) ≡
 unfolding pairs pairOf
 one-pair before octet = simp append-nil
 
-pairs-more : (before xs : List ℕ) (i : ℕ) → i < length xs
+pub pairs-more : (before xs : List ℕ) (i : ℕ) → i < length xs
     → pairs before (take i xs) ++ (before ++ pairOf (getD xs i 0)) ≡ pairs before (take (i + 1) xs)
 pairs-more before xs i h =
     sym (rw (add-one, take-suc xs i 0 h, pairs-append before (take i xs) (getD xs i 0 ∷ []), one-pair))
@@ -102,29 +100,6 @@ unfolding pairs pairOf
 pairs-room before [] i h = absurd (omega arith)
 pairs-room before (octet ∷ xs) zero h = simp length-append (omega arith)
 pairs-room before (octet ∷ xs) (suc i) h = simp length-append (omega (arith, pairs-room before xs i (omega arith)))
-
-pub pairs-next : (before xs : List ℕ) (i : ℕ) → i < length xs
-    → length (pairs before (take (i + 1) xs)) ≡ length (pairs before (take i xs)) + (length before + 2)
-unfolding pairOf
-pairs-next before xs i h =
-    rw (← (pairs-more before xs i h)) (simp length-append (omega arith))
-
-pub pairs-over : (under before xs : List ℕ) (at i to : ℕ) → i < length xs → to ≡ at + length (pairs before (take i xs))
-    → at + length (pairs before xs) ≤ length under
-    → over (over under at (pairs before (take i xs))) to (before ++ pairOf (getD xs i 0)) ≡ over under at (pairs before (take (i + 1) xs))
-unfolding pairOf
-pairs-over under before xs at i to h e room =
-    over-after under at (pairs before (take i xs)) (before ++ pairOf (getD xs i 0)) to e
-    (omega (arith, pairs-room before xs i h, length-append before (pairOf (getD xs i 0))))
-    ∙ ap (over under at) (pairs-more before xs i h)
-
-pub pairs-none : (under before xs : List ℕ) (at : ℕ) → under ≡ over under at (pairs before (take 0 xs))
-unfolding pairs
-pairs-none under before xs at = over-none under at xs
-
-pub pairs-start : (before xs : List ℕ) (at : ℕ) → at ≡ at + length (pairs before (take 0 xs))
-unfolding pairs
-pairs-start before xs at = omega arith
 
 -- whether so many of a width fit
 pub too-many : (room width many : ℕ) → 0 < width → room / width < many → room < many * width

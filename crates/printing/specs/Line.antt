@@ -1,11 +1,11 @@
 -- The lines that the programs write, and what writing one into a lent buffer answers and leaves.
 -- Assumes nothing.
-use Prim.Native.Nat.{ℕ, _+_}
+use Prim.Native.Nat.{ℕ, _+_, _≤_}
 use mathlib.Core.List.{List, [], _∷_, _++_}
 use mathlib.Core.Path.{_≡_}
 use lib.ListN.{length, take}
 use Rattle.octets.specs.Choice.{if_then_else_}
-use Rattle.octets.specs.Over.{laidIn, Does}
+use Rattle.octets.specs.Over.{over, laidIn, Does}
 use Rattle.octets.specs.Calls.{fitsAt}
 use Rattle.deeds.specs.declared.Order.{Order}
 use Rattle.deeds.specs.declared.Order.the-variants.{NoOrder, SetClock, SetDates}
@@ -40,6 +40,11 @@ abbrev pub replyText : List ℕ → List ℕ
 replyText [] = space ++ dash
 replyText (octet ∷ rest) = pairs space (octet ∷ rest)
 
+-- the part of it that is no pairs: the dash where there are none
+unfoldable pub dashFor : List ℕ → List ℕ
+dashFor [] = replyText []
+dashFor (octet ∷ rest) = []
+
 -- the printing program's line: run number, result number, order, reply
 unfoldable pub lineOf : ℕ → ℕ → Order → List ℕ → List ℕ
 lineOf number result order reply = beginning number result order ++ replyText reply ++ newline
@@ -63,7 +68,13 @@ fitting under text = if fitsAt under 0 text then text else []
 abbrev pub Lined : List ℕ → List ℕ → ℕ → List ℕ → Type 0
 Lined under text count left = Does (length (fitting under text)) (laidIn under (fitting under text)) count left
 
--- `Behind under at part to left`, of a text that is being written: a part stands behind its first `at` octets and ends at `to`; the rest is left open
-pub record Behind (under : List ℕ) (at : ℕ) (part : List ℕ) (to : ℕ) (left : List ℕ) : Type 0 where
+-- `PutAt under at part to left`: a part is written over a buffer from index `at` on, fits there, and ends at `to`
+pub record PutAt (under : List ℕ) (at : ℕ) (part : List ℕ) (to : ℕ) (left : List ℕ) : Type 0 where
   pub ends : to ≡ at + length part
-  pub stands : take to left ≡ take at under ++ part
+  pub fits : to ≤ length under
+  pub stands : left ≡ over under at part
+
+-- `PutShort most under at part to left`: and the part has so many octets at most
+pub record PutShort (most : ℕ) (under : List ℕ) (at : ℕ) (part : List ℕ) (to : ℕ) (left : List ℕ) : Type 0 where
+  pub put : PutAt under at part to left
+  pub short : length part ≤ most

@@ -1,12 +1,11 @@
 // The lines that the programs print: functions that write into a lent buffer, so that a program only reads, calls and writes.
 ghost use Prim.Native.Nat.{_+_, _*_, _≤_, _<_};
-ghost use mathlib.Core.List.{[], _++_};
+ghost use mathlib.Core.List.{_++_};
 ghost use mathlib.Core.Path.{_≡_};
-ghost use lib.Dec.{leb};
-ghost use lib.ListN.{length};
-ghost use Rattle.octets.specs.Over.{over};
+ghost use lib.Dec.{ltb};
+ghost use lib.ListN.{length, take};
 ghost use Rattle.printing.specs.Text.{decimal, hexFigure, pairOf, pairs};
-ghost use Rattle.printing.specs.Line.{word, beginning, newline, timeText, lineOf, gapLine, Behind, Lined};
+ghost use Rattle.printing.specs.Line.{space, newline, word, beginning, dashFor, timeText, lineOf, gapLine, PutAt, PutShort, Lined};
 use deeds::Order;
 
 fn hex_figure(n: u8) -> u8
@@ -26,21 +25,28 @@ fn pair(octet: u8) -> [u8; 2]
     [hex_figure(octet / 16), hex_figure(octet % 16)]
 }
 
-fn put_pair(out: &mut [u8], at: usize, before: &[u8], octet: u8) -> usize
-    requires { ⌜ at + (length (now before) + 2) ≤ length (now out) ⌝ }
-    ensures { λ r. ⌜ (r ≡ at + (length (now (before .entry)) + 2)) × (now (out .exit) ≡ over (now (out .entry)) at (now (before .entry) ++ pairOf octet)) ⌝ }
+// Writes a part of a line from an index on, and answers where it ends.
+fn put_part(out: &mut [u8], at: usize, part: &[u8]) -> usize
+    requires { ⌜ at + length (now part) ≤ length (now out) ⌝ }
+    ensures { λ r. ⌜ PutAt (now (out .entry)) at (now (part .entry)) r (now (out .exit)) ⌝ }
 {
-    let two = pair(octet);
-    octets::put(out, at, before);
-    octets::put(out, at + before.len(), &two);
-    at + (before.len() + 2)
+    octets::put(out, at, part);
+    at + part.len()
 }
 
-// Writes the pairs of some octets from an index on, `before` in front of each, and answers where they end.
+fn put_pair(out: &mut [u8], at: usize, before: &[u8], octet: u8) -> usize
+    requires { ⌜ at + (length (now before) + 2) ≤ length (now out) ⌝ }
+    ensures { λ r. ⌜ PutAt (now (out .entry)) at (now (before .entry) ++ pairOf octet) r (now (out .exit)) ⌝ }
+{
+    let two = pair(octet);
+    let end = put_part(out, at, before);
+    put_part(out, end, &two)
+}
+
+// The pairs of some octets, `before` in front of each.
 fn put_pairs(out: &mut [u8], at: usize, before: &[u8], octets: &[u8]) -> usize
     requires { ⌜ at + length (pairs (now before) (now octets)) ≤ length (now out) ⌝ }
-    ensures { λ r. ⌜ (r ≡ at + length (pairs (now (before .entry)) (now (octets .entry))))
-        × (now (out .exit) ≡ over (now (out .entry)) at (pairs (now (before .entry)) (now (octets .entry)))) ⌝ }
+    ensures { λ r. ⌜ PutAt (now (out .entry)) at (pairs (now (before .entry)) (now (octets .entry))) r (now (out .exit)) ⌝ }
 {
     let mut to = at;
     let mut i = 0;
@@ -52,27 +58,28 @@ fn put_pairs(out: &mut [u8], at: usize, before: &[u8], octets: &[u8]) -> usize
 }
 
 // The head of a line is all of it but the last octets in hex. It is short, and is written into an array of its own, because only its length tells
-// whether the line fits. Writes a part of it behind so many octets, and answers where the part ends.
-fn put_part(text: &mut [u8], at: usize, part: &[u8]) -> usize
-    requires { ⌜ at + length (now part) ≤ length (now text) ⌝ }
-    ensures { λ r. ⌜ Behind (now (text .entry)) at (now (part .entry)) r (now (text .exit)) ⌝ }
+// whether the line fits. Its columns stand a space apart.
+fn put_space(text: &mut [u8], at: usize) -> usize
+    requires { ⌜ at < length (now text) ⌝ }
+    ensures { λ r. ⌜ PutShort 1 (now (text .entry)) at space r (now (text .exit)) ⌝ }
 {
-    octets::put(text, at, part);
-    at + part.len()
+    put_part(text, at, b" ")
 }
 
-fn put_number(text: &mut [u8], at: usize, n: u64) -> usize
-    requires { ⌜ at + 20 ≤ length (now text) ⌝ }
-    ensures { λ r. ⌜ Behind (now (text .entry)) at (decimal n) r (now (text .exit)) ⌝ }
+// A number and the space behind it.
+fn number_column(text: &mut [u8], at: usize, n: u64) -> usize
+    requires { ⌜ at + 21 ≤ length (now text) ⌝ }
+    ensures { λ r. ⌜ PutShort 21 (now (text .entry)) at (decimal n ++ space) r (now (text .exit)) ⌝ }
 {
     let mut figures = [0u8; 20];
     let count = io::decimal(n, &mut figures);
-    put_part(text, at, &figures[..count])
+    let end = put_part(text, at, &figures[..count]);
+    put_space(text, end)
 }
 
 fn put_word(text: &mut [u8], at: usize, order: Order) -> usize
     requires { ⌜ at + 5 ≤ length (now text) ⌝ }
-    ensures { λ r. ⌜ Behind (now (text .entry)) at (word order) r (now (text .exit)) ⌝ }
+    ensures { λ r. ⌜ PutShort 5 (now (text .entry)) at (word order) r (now (text .exit)) ⌝ }
 {
     match order {
         Order::NoOrder => put_part(text, at, b"-"),
@@ -81,52 +88,104 @@ fn put_word(text: &mut [u8], at: usize, order: Order) -> usize
     }
 }
 
-fn put_time(text: &mut [u8], at: usize, order: Order, time: [u8; 10]) -> usize
-    requires { ⌜ at + 20 ≤ length (now text) ⌝ }
-    ensures { λ r. ⌜ Behind (now (text .entry)) at (timeText order time) r (now (text .exit)) ⌝ }
-{
-    match order {
-        Order::NoOrder => put_part(text, at, b"-"),
-        Order::SetClock => put_pairs(text, at, b"", octets::part(&time, 0, 7)),
-        Order::SetDates => put_pairs(text, at, b"", octets::part(&time, 0, 10)),
-    }
-}
-
+// What both lines begin with.
 fn begin(text: &mut [u8], first: u64, second: u64, order: Order) -> usize
     requires { ⌜ 47 ≤ length (now text) ⌝ }
-    ensures { λ r. ⌜ Behind (now (text .entry)) 0 (beginning first second order) r (now (text .exit)) ⌝ }
+    ensures { λ r. ⌜ PutShort 47 (now (text .entry)) 0 (beginning first second order) r (now (text .exit)) ⌝ }
 {
-    let mut end = put_number(text, 0, first);
-    end = put_part(text, end, b" ");
-    end = put_number(text, end, second);
-    end = put_part(text, end, b" ");
+    let mut end = number_column(text, 0, first);
+    end = number_column(text, end, second);
     put_word(text, end, order)
 }
 
-// Whether `many` times `width` octets and `rest` more fit.
+fn put_time(text: &mut [u8], at: usize, order: Order, time: &[u8]) -> usize
+    requires { ⌜ at + 20 ≤ length (now text) ⌝ }
+    ensures { λ r. ⌜ PutShort 20 (now (text .entry)) at (timeText order (now (time .entry))) r (now (text .exit)) ⌝ }
+{
+    match order {
+        Order::NoOrder => put_part(text, at, b"-"),
+        Order::SetClock => put_pairs(text, at, b"", octets::part(time, 0, 7)),
+        Order::SetDates => put_pairs(text, at, b"", octets::part(time, 0, 10)),
+    }
+}
+
+// The octets of an order between two spaces.
+fn time_column(text: &mut [u8], at: usize, order: Order, time: &[u8]) -> usize
+    requires { ⌜ at + 22 ≤ length (now text) ⌝ }
+    ensures { λ r. ⌜ PutShort 22 (now (text .entry)) at (space ++ timeText order (now (time .entry)) ++ space) r (now (text .exit)) ⌝ }
+{
+    let mut end = put_space(text, at);
+    end = put_time(text, end, order, time);
+    put_space(text, end)
+}
+
+// The head of a gap's line.
+fn gap_head(
+    text: &mut [u8],
+    number: u64,
+    count: u64,
+    order: Order,
+    time: &[u8],
+    damaged: u64,
+) -> usize
+    requires { ⌜ 90 ≤ length (now text) ⌝ }
+    ensures { λ r. ⌜ PutShort 90 (now (text .entry)) 0 (beginning number count order ++ space ++ timeText order (now (time .entry)) ++ space ++ decimal damaged ++ space) r (now (text .exit)) ⌝ }
+{
+    let mut end = begin(text, number, count, order);
+    end = time_column(text, end, order, time);
+    number_column(text, end, damaged)
+}
+
+// What stands for a reply that has no octets.
+fn put_dash(text: &mut [u8], at: usize, reply: &[u8]) -> usize
+    requires { ⌜ at + 2 ≤ length (now text) ⌝ }
+    ensures { λ r. ⌜ PutAt (now (text .entry)) at (dashFor (now (reply .entry))) r (now (text .exit)) ⌝ }
+{
+    if reply.len() == 0 {
+        return put_part(text, at, b" -");
+    }
+    at
+}
+
+// Whether `many` times `width` octets, `rest` more and one for the newline fit.
 fn fits(room: usize, width: usize, many: usize, rest: usize) -> bool
     requires { ⌜ 0 < width ⌝ }
-    ensures { λ r. ⌜ r ≡ leb (rest + many * width) room ⌝ }
+    ensures { λ r. ⌜ r ≡ ltb (rest + many * width) room ⌝ }
 {
     if room / width < many {
         return false;
     }
-    if room - many * width < rest {
+    if room - many * width <= rest {
         return false;
     }
     true
 }
 
-// Writes a short text, the pairs of some octets and a newline, if all of it fits.
-fn lay(out: &mut [u8], text: &[u8], before: &[u8], octets: &[u8]) -> usize
-    requires { ⌜ (length (now text) ≤ 252) × (length (now before) ≤ 1) ⌝ }
-    ensures { λ r. ⌜ Lined (now (out .entry)) (now (text .entry) ++ pairs (now (before .entry)) (now (octets .entry)) ++ newline) r (now (out .exit)) ⌝ }
+// What stands behind the head of a line: the pairs of some octets and a newline.
+fn put_tail(out: &mut [u8], at: usize, before: &[u8], octets: &[u8]) -> usize
+    requires { ⌜ at + length (pairs (now before) (now octets)) < length (now out) ⌝ }
+    ensures { λ r. ⌜ PutAt (now (out .entry)) at (pairs (now (before .entry)) (now (octets .entry)) ++ newline) r (now (out .exit)) ⌝ }
 {
-    if fits(out.len(), before.len() + 2, octets.len(), text.len() + 1) {
-        octets::put(out, 0, text);
-        let end = put_pairs(out, text.len(), before, octets);
-        octets::put(out, end, b"\n");
-        return end + 1;
+    let end = put_pairs(out, at, before, octets);
+    put_part(out, end, b"\n")
+}
+
+fn put_line(out: &mut [u8], head: &[u8], before: &[u8], octets: &[u8]) -> usize
+    requires { ⌜ length (now head) + length (pairs (now before) (now octets)) < length (now out) ⌝ }
+    ensures { λ r. ⌜ PutAt (now (out .entry)) 0 (now (head .entry) ++ pairs (now (before .entry)) (now (octets .entry)) ++ newline) r (now (out .exit)) ⌝ }
+{
+    let end = put_part(out, 0, head);
+    put_tail(out, end, before, octets)
+}
+
+// Writes a line whose head is the first `end` octets of a text, if all of it fits.
+fn lay(out: &mut [u8], text: &[u8], end: usize, before: &[u8], octets: &[u8]) -> usize
+    requires { ⌜ length (now before) ≤ 1 ⌝ }
+    ensures { λ r. ⌜ Lined (now (out .entry)) (take end (now (text .entry)) ++ pairs (now (before .entry)) (now (octets .entry)) ++ newline) r (now (out .exit)) ⌝ }
+{
+    let head = octets::part(text, 0, end);
+    if fits(out.len(), before.len() + 2, octets.len(), head.len()) {
+        return put_line(out, head, before, octets);
     }
     0
 }
@@ -147,11 +206,8 @@ pub fn line(out: &mut [u8], number: u64, result: u8, order: Order, reply: &[u8])
 {
     let mut text = [0u8; 64];
     let mut end = begin(&mut text, number, result as u64, order);
-    if reply.len() == 0 {
-        end = put_part(&mut text, end, b" -");
-        return lay(out, octets::part(&text, 0, end), b"", reply);
-    }
-    lay(out, octets::part(&text, 0, end), b" ", reply)
+    end = put_dash(&mut text, end, reply);
+    lay(out, &text, end, b" ", reply)
 }
 
 // Writes the line of a gap of the driving program.
@@ -167,11 +223,13 @@ pub fn gap_line(
     ensures { λ r. ⌜ Lined (now (out .entry)) (gapLine number length order time damaged (now (buffer .entry))) r (now (out .exit)) ⌝ }
 {
     let mut text = [0u8; 96];
-    let mut end = begin(&mut text, number as u64, length as u64, order);
-    end = put_part(&mut text, end, b" ");
-    end = put_time(&mut text, end, order, time);
-    end = put_part(&mut text, end, b" ");
-    end = put_number(&mut text, end, damaged as u64);
-    end = put_part(&mut text, end, b" ");
-    lay(out, octets::part(&text, 0, end), b"", buffer)
+    let end = gap_head(
+        &mut text,
+        number as u64,
+        length as u64,
+        order,
+        &time,
+        damaged as u64,
+    );
+    lay(out, &text, end, b"", buffer)
 }

@@ -1,8 +1,6 @@
--- `put_part` writes a part behind the first octets of a text.
--- What is put there stands there. Assumes nothing.
-use mathlib.Core.Path.{refl}
-use Rattle.octets.proofs.Over.{put-fits}
-use Rattle.printing.proofs.Lines.{over-behind}
+-- `put_part` writes a part of a line.
+-- What fits is put there. Assumes nothing.
+use Rattle.printing.proofs.Lines.{put-at}
 use borrow.Author.Needs.{needs}
 use Rattle.printing.proofs.put_part.Statement.{statement}
 use Rattle.printing.proofs.put_part.Tie as tie
@@ -17,9 +15,13 @@ same-length : tie.Need-same-length
 same-length c = search needs
 
 returns : tie.Need-returns
-returns c =
-    let room = c .before .before .before .before .before .before .pre in
-    over-behind _ _ _ room refl (put-fits _ _ _ (c .before .before .put .ensures) room)
+returns c = put-at _ _ _ (c .before .before .before .before .before .before .pre) (c .before .before .put .ensures)
 
 pub put-part-spec : {M : Type 1} → statement M
-put-part-spec = tie.close (tie.spec put-requires add-result same-length returns)
+put-part-spec =
+    tie.close
+    (tie.spec
+    put-requires
+    add-result
+    same-length
+    returns)

@@ -35,19 +35,19 @@ same-length : tie.Need-same-length
 same-length c = search needs
 
 returns : tie.Need-returns
-returns c = rw (c .before .before .before .before .before .enum-told .given .1) (c .before .before .put-part .ensures)
+returns c = rw (c .before .before .before .before .before .enum-told .given .1) (record { put = c .before .before .put-part .ensures; short = search needs })
 
 same-length-2 : tie.Need-same-length-2
 same-length-2 c = search needs
 
 returns-2 : tie.Need-returns-2
-returns-2 c = rw (c .before .before .before .before .before .enum-told2 .given .1) (c .before .before .put-part2 .ensures)
+returns-2 c = rw (c .before .before .before .before .before .enum-told2 .given .1) (record { put = c .before .before .put-part2 .ensures; short = search needs })
 
 same-length-3 : tie.Need-same-length-3
 same-length-3 c = search needs
 
 returns-3 : tie.Need-returns-3
-returns-3 c = rw (c .before .before .before .before .before .enum-told3 .given .1) (c .before .before .put-part3 .ensures)
+returns-3 c = rw (c .before .before .before .before .before .enum-told3 .given .1) (record { put = c .before .before .put-part3 .ensures; short = search needs })
 
 pub put-word-spec : {M : Type 1} → statement M
 put-word-spec =
