@@ -8,11 +8,11 @@ use native.Mathlib.Nat.{zero-add}
 use native.Mathlib.Omega.{arith}
 use borrow.Author.Tests.{leb-true, le-leb, lt-leb}
 use lib.Dec.{leb}
-use lib.ListN.{length, take, drop, getD, set, length-take, length-drop}
+use lib.ListN.{length, take, drop, getD, set, length-append, length-take, length-drop}
 use lib.Seq.{take-at, take-take, take-length, length-take-le, getD-append-add, getD-drop}
-use Rattle.octets.specs.Over.{over}
+use Rattle.octets.specs.Over.{over, laidIn, Does}
 use Rattle.octets.proofs.Conditions.{and-left, and-right}
-use Rattle.octets.proofs.Over.{over-more, over-first, over-length}
+use Rattle.octets.proofs.Over.{over-more, over-first}
 use Rattle.stream.specs.declared.Window.{Window}
 use Rattle.stream.specs.Window.{countOf, seenIn, hasIn, Kept, Filled}
 
@@ -74,23 +74,30 @@ module _ (space : List ℕ) (w : Window) where
         unchanged = λ _. refl;
       }
 
-  -- too few stand there: they are moved to the front, and read on behind
-  pub filled-behind : (size have to : ℕ) (front left : List ℕ) → hasIn space w size ≡ false → have ≡ length (seenIn space w)
-      → front ≡ over space 0 (take have (drop (w .from) space))
-      → have ≤ to → to ≤ length front → Kept have front left → Filled space w size (record { from = 0; to = to }) left
-  filled-behind size have to front left not-yet count moved more room kept =
+  -- too few stand there: they are moved to the front
+  pub seen-moved : {have : ℕ} {front : List ℕ} → have ≡ length (seenIn space w) → front ≡ over space 0 (take have (drop (w .from) space))
+      → Does (length (seenIn space w)) (laidIn space (seenIn space w)) have front
+  seen-moved count moved =
       let rest : List ℕ = drop (w .from) space in
       let few : length (seenIn space w) ≤ countOf w = omega (arith, length-take (countOf w) rest) in
-      let seen : take have rest ≡ seenIn space w =
-      rw count (sym (take-take (length (seenIn space w)) (countOf w) rest few) ∙ take-length (seenIn space w)) in
-      let at-front : front ≡ over space 0 (seenIn space w) = moved ∙ ap (λ (l : List ℕ). over space 0 l) seen in
+      let seen : take (length (seenIn space w)) rest ≡ seenIn space w =
+      sym (take-take (length (seenIn space w)) (countOf w) rest few) ∙ take-length (seenIn space w) in
+      record { answers = count; left-so = rw (count, seen, over-first space (seenIn space w)) at moved }
+
+  -- and read on behind
+  pub filled-behind : (size : ℕ) {have to : ℕ} {front left : List ℕ} → hasIn space w size ≡ false
+      → Does (length (seenIn space w)) (laidIn space (seenIn space w)) have front
+      → have ≤ to → to ≤ length front → Kept have front left → Filled space w size (record { from = 0; to = to }) left
+  filled-behind size {have} {to} {front} {left} not-yet moved more room kept =
       let stands : take have front ≡ seenIn space w =
-      rw (at-front, over-first space (seenIn space w)) (take-at (seenIn space w) (drop (length (seenIn space w)) space) have (sym count)) in
+      rw (moved .left-so) (take-at (seenIn space w) (drop (length (seenIn space w)) space) have (sym (moved .answers))) in
+      let long : length front ≡ length space =
+      ap length (moved .left-so) ∙ simp (length-append, length-drop) (omega (arith, seen-room)) in
       record {
-        same-length = kept .same-length ∙ rw at-front (over-length space 0 (seenIn space w) (omega (arith, seen-room)));
+        same-length = kept .same-length ∙ long;
         in-order = omega arith;
         in-space = omega (arith, kept .same-length);
-        first = rw (← count) (take-take have (to - 0) left (omega arith) ∙ kept .first ∙ stands);
+        first = rw (← (moved .answers)) (take-take have (to - 0) left (omega arith) ∙ kept .first ∙ stands);
         same-window = λ e. absurd (false≢true (sym not-yet ∙ e));
         unchanged = λ e. absurd (false≢true (sym not-yet ∙ e));
       }

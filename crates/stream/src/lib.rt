@@ -2,9 +2,10 @@
 // made while enough octets stand in the window, and none waits for more than is asked for. Texts wait in a block until it is full, or until
 // the program is about to read.
 ghost use Prim.Native.Nat.{_+_, _-_, _≤_};
+ghost use mathlib.Core.Bool.{false};
 ghost use mathlib.Core.Path.{_≡_};
 ghost use lib.ListN.{length, take, drop};
-ghost use Rattle.octets.specs.Over.{over};
+ghost use Rattle.octets.specs.Over.{over, laidIn, Does};
 ghost use Rattle.stream.specs.Texts.{Out, AddedFirst, Added, Told};
 ghost use Rattle.stream.specs.Window.{countOf, seenIn, takenOf, hasIn, Kept, Filled};
 
@@ -59,6 +60,15 @@ fn to_front(space: &mut [u8], from: usize, many: usize)
     }
 }
 
+// The octets in the window are moved to the front. Answers how many they are.
+fn seen_to_front(space: &mut [u8], window: Window) -> usize
+    ensures { λ r. ⌜ Does (length (seenIn (now (space .entry)) window)) (laidIn (now (space .entry)) (seenIn (now (space .entry)) window)) r (now (space .exit)) ⌝ }
+{
+    let have = seen(space, window).len();
+    to_front(space, window.from, have);
+    have
+}
+
 // Whether so many octets stand in a window of the space.
 fn has(space: &[u8], window: Window, size: usize) -> bool
     ensures { λ r. ⌜ r ≡ hasIn (now (space .entry)) window size ⌝ }
@@ -103,6 +113,18 @@ fn read_on(space: &mut [u8], had: usize, size: usize) -> usize
     have
 }
 
+// What has not been taken is moved to the front, and more is read behind it.
+fn refilled(space: &mut [u8], window: Window, size: usize) -> Window
+    requires { ⌜ hasIn (now space) window size ≡ false ⌝ }
+    ensures { λ r. ⌜ Filled (now (space .entry)) window size r (now (space .exit)) ⌝ }
+{
+    let have = seen_to_front(space, window);
+    Window {
+        from: 0,
+        to: read_on(space, have, size),
+    }
+}
+
 // Reads on until so many octets stand in the window, the space is full, or the input ends. What comes in depends on the world outside, so
 // this says what holds whatever is read: what has not been taken stands first, and the window lies in the space; and where so many stand
 // there already, window and space are as they were. Where too few stand, one that reads nothing is allowed: the input may have ended.
@@ -112,12 +134,7 @@ pub fn filled(space: &mut [u8], window: Window, size: usize) -> Window
     if has(space, window, size) {
         return window;
     }
-    let have = seen(space, window).len();
-    to_front(space, window.from, have);
-    Window {
-        from: 0,
-        to: read_on(space, have, size),
-    }
+    refilled(space, window, size)
 }
 
 // Texts that wait to be written: how many octets of a block they have, and whether everything before them could be written.
