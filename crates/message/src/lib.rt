@@ -5,6 +5,7 @@ use label::LabelB;
 use octets::Kept;
 ghost use Prim.Native.Nat.{_%_, _≤_};
 ghost use mathlib.Core.Path.{_≡_};
+ghost use Rattle.label.specs.Label.{labelAAt};
 ghost use Rattle.message.specs.Headers.{tOf, causeOctet, headerOf, headerOctets};
 ghost use Rattle.message.specs.Requests.{asksReadings, labelsFrom, requestOf};
 ghost use Rattle.message.specs.Table.{table, rowIn};
@@ -185,6 +186,23 @@ fn labels_from(type_id: u8) -> usize
     6
 }
 
+fn label_at(m: &[u8], at: usize) -> LabelA
+    ensures { λ r. ⌜ r ≡ labelAAt (now (m .entry)) at ⌝ }
+{
+    LabelA::read(octets::part(m, at, 5))
+}
+
+fn password_of(m: &[u8]) -> u32
+    ensures { λ r. ⌜ r ≡ requestOf (now (m .entry)) .password ⌝ }
+{
+    octets::low_first_4(
+        octets::octet_at(m, 6),
+        octets::octet_at(m, 7),
+        octets::octet_at(m, 8),
+        octets::octet_at(m, 9),
+    )
+}
+
 impl Request {
     pub fn read(m: &[u8]) -> Request
         ensures { λ r. ⌜ r ≡ requestOf (now (m .entry)) ⌝ }
@@ -196,15 +214,10 @@ impl Request {
             octets: m.len(),
             first_object: octets::octet_at(m, 6),
             last_object: octets::octet_at(m, 7),
-            first: LabelA::read(octets::part(m, labels, 5)),
-            last: LabelA::read(octets::part(m, labels + 5, 5)),
+            first: label_at(m, labels),
+            last: label_at(m, labels + 5),
             time: LabelB::read(octets::part(m, 6, 7)),
-            password: octets::low_first_4(
-                octets::octet_at(m, 6),
-                octets::octet_at(m, 7),
-                octets::octet_at(m, 8),
-                octets::octet_at(m, 9),
-            ),
+            password: password_of(m),
         }
     }
 }
