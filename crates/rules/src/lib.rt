@@ -5,7 +5,7 @@ ghost use lib.Dec.{eqb};
 ghost use Rattle.octets.specs.Choice.{if_then_else_};
 ghost use Rattle.message.specs.declared.RowFound.the-variants as found;
 ghost use Rattle.message.specs.Table.{table, rowIn};
-ghost use Rattle.rules.specs.declared.Rule.the-variants.{Objects, ReadingLabel, ReadingRange, NoReading, NoDates, TimeLabel, Accepted};
+ghost use Rattle.rules.specs.declared.Rule.the-variants.{Shape, Address, Objects, ReadingLabel, ReadingRange, NoReading, NoDates, TimeLabel, Accepted};
 ghost use Rattle.choice.specs.declared.Query.the-variants.{Reading};
 ghost use Rattle.fields.specs.Answers.{datesFound};
 ghost use Rattle.rules.specs.Rules.{causeBy, pnBy, deedBy};
@@ -322,6 +322,20 @@ fn by_type(image: &[u8], clock: [u8; 7], request: Request) -> Rule
     }
 }
 
+// The rules from the shape on: what the row of its type asks of a message, and what its type does.
+fn by_row(image: &[u8], clock: [u8; 7], request: Request, row: Row) -> Rule
+    ensures { λ r. ⌜ r ≡ (if not (shapedAs row request) then Shape else if not (addressedAs (row .addresses) (request .header .record_address)) then Address else byType (now (image .entry)) clock request) ⌝ }
+{
+    let addresses = row.addresses;
+    if is_shaped(row, request) {
+        if is_addressed(addresses, request.header.record_address) {
+            return by_type(image, clock, request);
+        }
+        return Rule::Address;
+    }
+    Rule::Shape
+}
+
 // The rules from the session on, of a message whose type is listed.
 fn listed(session: Session, image: &[u8], clock: [u8; 7], request: Request, row: Row) -> Rule
     requires { ⌜ (marked (request .header .cause) ≡ false) × (rowIn table (request .header .«type_id») ≡ found.Is row) ⌝ }
@@ -329,7 +343,6 @@ fn listed(session: Session, image: &[u8], clock: [u8; 7], request: Request, row:
 {
     let type_id = request.header.type_id;
     let point = request.header.point;
-    let addresses = row.addresses;
     if lacks_session(session, type_id) {
         return Rule::NoSession;
     }
@@ -337,13 +350,7 @@ fn listed(session: Session, image: &[u8], clock: [u8; 7], request: Request, row:
         if is_other(session, point, type_id) {
             return Rule::OtherSession;
         }
-        if is_shaped(row, request) {
-            if is_addressed(addresses, request.header.record_address) {
-                return by_type(image, clock, request);
-            }
-            return Rule::Address;
-        }
-        return Rule::Shape;
+        return by_row(image, clock, request, row);
     }
     Rule::UnknownPoint
 }

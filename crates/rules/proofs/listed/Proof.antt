@@ -26,30 +26,16 @@ returns-2 : tie.Need-returns-2
 unfolding decide
 returns-2 c = rw (c .before .before .before .before .before .before .before .before .before .pre .0, c .before .before .before .before .before .before .before .before .before .pre .1, told (c .before .before .before .before .before .before .lacks-session .ensures) (c .before .before .before .before .before .if1 .left), ← (c .before .before .before .before .point-of .ensures), told (c .before .before .before .is-known .ensures) (c .before .before .if2 .taken), told (c .before .is-other .ensures) (c .if3 .taken))
 
-is-shaped-requires : tie.Need-is-shaped-requires
-is-shaped-requires c κs = search needs
-
-is-addressed-requires : tie.Need-is-addressed-requires
-is-addressed-requires c κs = search needs
-
-by-type-requires : tie.Need-by-type-requires
-by-type-requires c κs = search needs
+by-row-requires : tie.Need-by-row-requires
+by-row-requires c κs = search needs
 
 returns-3 : tie.Need-returns-3
 unfolding decide
-returns-3 c = rw (c .before .before .before .before .before .before .before .before .before .before .before .before .before .before .pre .0, c .before .before .before .before .before .before .before .before .before .before .before .before .before .before .pre .1, told (c .before .before .before .before .before .before .before .before .before .before .before .lacks-session .ensures) (c .before .before .before .before .before .before .before .before .before .before .if1 .left), ← (c .before .before .before .before .before .before .before .before .before .point-of .ensures), told (c .before .before .before .before .before .before .before .before .is-known .ensures) (c .before .before .before .before .before .before .before .if2 .taken), told (c .before .before .before .before .before .before .is-other .ensures) (c .before .before .before .before .before .if3 .left), told (c .before .before .before .before .is-shaped .ensures) (c .before .before .before .if4 .taken), told (c .before .before .is-addressed .ensures) (c .before .if5 .taken)) (c .by-type .ensures)
+returns-3 c = rw (c .before .before .before .before .before .before .before .before .before .before .pre .0, c .before .before .before .before .before .before .before .before .before .before .pre .1, told (c .before .before .before .before .before .before .before .lacks-session .ensures) (c .before .before .before .before .before .before .if1 .left), ← (c .before .before .before .before .before .point-of .ensures), told (c .before .before .before .before .is-known .ensures) (c .before .before .before .if2 .taken), told (c .before .before .is-other .ensures) (c .before .if3 .left)) (c .by-row .ensures)
 
 returns-4 : tie.Need-returns-4
 unfolding decide
-returns-4 c = rw (c .before .before .before .before .before .before .before .before .before .before .before .before .before .pre .0, c .before .before .before .before .before .before .before .before .before .before .before .before .before .pre .1, told (c .before .before .before .before .before .before .before .before .before .before .lacks-session .ensures) (c .before .before .before .before .before .before .before .before .before .if1 .left), ← (c .before .before .before .before .before .before .before .before .point-of .ensures), told (c .before .before .before .before .before .before .before .is-known .ensures) (c .before .before .before .before .before .before .if2 .taken), told (c .before .before .before .before .before .is-other .ensures) (c .before .before .before .before .if3 .left), told (c .before .before .before .is-shaped .ensures) (c .before .before .if4 .taken), told (c .before .is-addressed .ensures) (c .if5 .left))
-
-returns-5 : tie.Need-returns-5
-unfolding decide
-returns-5 c = rw (c .before .before .before .before .before .before .before .before .before .before .before .pre .0, c .before .before .before .before .before .before .before .before .before .before .before .pre .1, told (c .before .before .before .before .before .before .before .before .lacks-session .ensures) (c .before .before .before .before .before .before .before .if1 .left), ← (c .before .before .before .before .before .before .point-of .ensures), told (c .before .before .before .before .before .is-known .ensures) (c .before .before .before .before .if2 .taken), told (c .before .before .before .is-other .ensures) (c .before .before .if3 .left), told (c .before .is-shaped .ensures) (c .if4 .left))
-
-returns-6 : tie.Need-returns-6
-unfolding decide
-returns-6 c = rw (c .before .before .before .before .before .before .before .pre .0, c .before .before .before .before .before .before .before .pre .1, told (c .before .before .before .before .lacks-session .ensures) (c .before .before .before .if1 .left), ← (c .before .before .point-of .ensures), told (c .before .is-known .ensures) (c .if2 .left))
+returns-4 c = rw (c .before .before .before .before .before .before .before .pre .0, c .before .before .before .before .before .before .before .pre .1, told (c .before .before .before .before .lacks-session .ensures) (c .before .before .before .if1 .left), ← (c .before .before .point-of .ensures), told (c .before .is-known .ensures) (c .if2 .left))
 
 pub listed-spec : {M : Type 1} → statement M
 listed-spec =
@@ -61,10 +47,6 @@ listed-spec =
     is-known-requires
     is-other-requires
     returns-2
-    is-shaped-requires
-    is-addressed-requires
-    by-type-requires
+    by-row-requires
     returns-3
-    returns-4
-    returns-5
-    returns-6)
+    returns-4)
