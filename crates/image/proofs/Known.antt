@@ -85,7 +85,7 @@ keep-leading f (r ∷ rs) = by-test (keep-leading f rs) (f r) refl
     by-test rest false e = refl
 
 -- a point is found among leading points exactly when there is one
-found-point : (a n : ℕ) (rs : List (List ℕ)) → isFound (pointIn a n (leading (isKind 2) rs)) ≡ ltb 0 (howMany (isPoint a) (leading (isKind 2) rs))
+pub found-point : (a n : ℕ) (rs : List (List ℕ)) → isFound (pointIn a n (leading (isKind 2) rs)) ≡ ltb 0 (howMany (isPoint a) (leading (isKind 2) rs))
 unfolding pointIn leading howMany keep
 found-point a n [] = refl
 found-point a n (r ∷ rs) = by-tests (found-point a (n + 1) rs) (eqb (kindOf r) 2) (eqb (pointOf r) a) refl refl
@@ -153,10 +153,10 @@ dates-at-most-once (r ∷ rs) l =
     (λ e. rest)
 
 -- of an image in order
-kinds-2 : (q : List ℕ) → isKind 2 q ≡ true → kindOf q ≡ 2
+pub kinds-2 : (q : List ℕ) → isKind 2 q ≡ true → kindOf q ≡ 2
 kinds-2 q e = eqb-true (kindOf q) 2 e
 
-points-2 : (a : ℕ) (q : List ℕ) → isPoint a q ≡ true → kindOf q ≡ 2
+pub points-2 : (a : ℕ) (q : List ℕ) → isPoint a q ≡ true → kindOf q ≡ 2
 points-2 a q e = eqb-true (kindOf q) 2 (and-left (eqb (kindOf q) 2) (eqb (pointOf q) a) e)
 
 module _ (image : List ℕ) (l : linked inOrder (recordsOf image) ≡ true) where

@@ -6,7 +6,7 @@ use mathlib.Core.List.{List, [], _∷_, _++_, flatten}
 use mathlib.Core.Path.{_≡_, sym}
 use native.Mathlib.Omega.{arith}
 use contract.Lifetimes.{Lfts}
-use borrow.Author.Tests.{le-leb, lt-leb}
+use borrow.Author.Tests.{ne-eqb, le-ltb, le-leb, lt-leb}
 use lib.ListN.{length, getD, replicate}
 use Rattle.octets.specs.Conditions.{holds}
 use Rattle.octets.specs.Numbers.{lowFirst, highFirst}
@@ -17,12 +17,16 @@ use Rattle.label.specs.Time.{real, minutes}
 use Rattle.label.specs.Label.{dateTimeA, validA, instant, beforeA, millisecond, second, validB, inMinute, beforeB, labelAAt, labelBAt}
 use Rattle.records.specs.Records.{lengthOf, kindOf, isWhole, walk, records, recordsFrom}
 use Rattle.records.specs.Said.{every, linked, keep, howMany}
+use Rattle.fields.specs.declared.Key.{Key}
 use Rattle.fields.specs.Parts.{numberAt, pointOf, recordAddress, readingLabel, eventLabel, isKind}
 use Rattle.fields.specs.Answers.{recordsOf}
 use Rattle.image.specs.Image.{readingRecord, eventRecord, right, byPoint, readingBefore, eventBefore, inOrder, knows, soundImage}
+use Rattle.image.specs.working.Keys.{keysInOrder}
 use Rattle.image.proofs.Soundness.{rules, right-point, right-reading, right-event, sound-facts}
 use Rattle.image.proofs.sound.Reads as sound
+use Rattle.image.proofs.is_reading_record.Reads as is-reading-record
 use Rattle.image.proofs.is_event_record.Reads as is-event-record
+use Rattle.image.proofs.in_order.Reads as in-order
 
 -- to unfold one of these is to unfold what a sound image, and the labels in it, stand on
 the-image : Unit {0}
@@ -133,6 +137,26 @@ module _ (κs : Lfts 1) (x : Place) where
   sound-events-back s p = false≢true (sym p)
 
 module _ (κs : Lfts 0) where
+  -- a record address between 11 and 21 is one of readings
+  is-reading-record-between : (n : ℕ) → 11 < n → n < 21 → RuledOut (is-reading-record.Post κs) (n, tt) true
+  unfolding readingRecord
+  is-reading-record-between n low high s p = false≢true (sym (rw (ne-eqb n 11 (λ e. omega arith), ne-eqb n 21 (λ e. omega arith)) at p))
+
+  -- 21 is no record address of readings
+  is-reading-record-21 : RuledOut (is-reading-record.Post κs) (21, tt) false
+  unfolding readingRecord
+  is-reading-record-21 s p = false≢true p
+
+  -- a record of a higher kind in order before one of a lower, whatever else they have
+  in-order-kinds : (k l : Key) → l .kind < k .kind → RuledOut (in-order.Post κs) (k, (l, tt)) true
+  unfolding keysInOrder
+  in-order-kinds k l falls s p = false≢true (sym (rw (ne-eqb (k .kind) (l .kind) (λ e. omega arith), le-ltb (k .kind) (l .kind) (omega arith)) at p))
+
+  -- two records of kind 3 in order, whatever else they have
+  in-order-dates : (k l : Key) → k .kind ≡ 3 → l .kind ≡ 3 → RuledOut (in-order.Post κs) (k, (l, tt)) true
+  unfolding keysInOrder
+  in-order-dates k l first second s p = false≢true (sym (rw (first, second) at p))
+
   -- a record address from 56 to 127 is one of events
   is-event-record-between : (n : ℕ) → 55 < n → n < 128 → RuledOut (is-event-record.Post κs) (n, tt) true
   unfolding eventRecord

@@ -19,7 +19,7 @@ use label::LabelB;
 use label::Moment;
 
 // Record addresses of readings: periods and totals.
-fn is_reading_record(address: u8) -> bool
+pub fn is_reading_record(address: u8) -> bool
     ensures { λ r. ⌜ r ≡ readingRecord address ⌝ }
 {
     if address == 11 {
@@ -99,7 +99,7 @@ fn is_before(mine: Key, other: Key) -> bool
 }
 
 // Whether a record may stand right behind another: kinds rise; points and readings rise strictly, events may be equal.
-fn in_order(front: Key, behind: Key) -> bool
+pub fn in_order(front: Key, behind: Key) -> bool
     ensures { λ r. ⌜ r ≡ keysInOrder front behind ⌝ }
 {
     let kind = front.kind;

@@ -10,6 +10,7 @@ use Rattle.octets.specs.Conditions.{holds}
 use Rattle.octets.specs.Numbers.{lowFirst, highFirst}
 use Rattle.octets.proofs.Outcome.{RuledOut, Place, lent, never}
 use Rattle.records.specs.Records.{lengthOf, isWhole, wholeAt, recordAt, kindAt, placeAfter}
+use Rattle.records.proofs.length_of.Reads as length-of
 use Rattle.records.proofs.is_whole.Reads as is-whole
 use Rattle.records.proofs.kind_at.Reads as kind-at
 use Rattle.records.proofs.after.Reads as after
@@ -18,6 +19,17 @@ use Rattle.records.proofs.after.Reads as after
 the-record : Unit {0}
 unfolding wholeAt isWhole holds lengthOf highFirst lowFirst
 the-record = tt
+
+module _ (κs : Lfts 0) where
+  -- the length of a reading without its kind
+  length-of-body : RuledOut (length-of.Post κs) (4, tt) 38
+  unfolding lengthOf
+  length-of-body s p = omega (arith, p .0)
+
+  -- a length of what is no kind
+  length-of-none : (length : ℕ) → (length ≡ 0 → ⊥) → RuledOut (length-of.Post κs) (6, tt) length
+  unfolding lengthOf
+  length-of-none length some s p = some (p .0)
 
 -- x: where the octets lie; a to f: the body of a point's record, which has length 7 and kind 2
 module _ (κs : Lfts 1) (x : Place) (a b c d e f : ℕ) where

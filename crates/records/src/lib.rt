@@ -4,7 +4,7 @@ ghost use Prim.Native.Nat.{_≤_};
 ghost use Rattle.records.specs.Records.{lengthOf, wholeAt, kindAt, placeAfter};
 
 // The length that a record of a kind has, and 0 for what is no kind.
-fn length_of(kind: u8) -> u16
+pub fn length_of(kind: u8) -> u16
     ensures { λ r. ⌜ (r ≡ lengthOf kind) × (r ≤ 39) ⌝ }
 {
     match kind {
