@@ -116,6 +116,21 @@ module _ (κs : Lfts 1) (x : Place) where
   unfolding nthPlace placesFrom chosen placesOf inSpan the-records the-minutes
   next-second s p = never (cc)
 
+  -- the event left out that stands at the very place from which the search goes on
+  next-here : RuledOut (next.Post κs) (lent x events, (asked 1 (pos 1) (pos 1), (16, tt))) Nothing
+  unfolding nthPlace placesFrom chosen placesOf inSpan the-records the-minutes
+  next-here s p = never (cc)
+
+  -- a record found where the search goes on from inside another
+  next-inside : (query : Query) (at : ℕ) → RuledOut (next.Post κs) (lent x events, (query, (2, tt))) (At at)
+  unfolding nthPlace placesFrom placesOf the-records
+  next-inside query at s p = never (cc)
+
+  -- an event of another point next, whatever the range
+  next-other-point : (first last : ℤ) (at : ℕ) → RuledOut (next.Post κs) (lent x event, (asked 2 first last, (1, tt))) (At at)
+  unfolding nthPlace placesFrom chosen placesOf inSpan numberAt pointOf the-records
+  next-other-point first last at s p = never (cc)
+
   -- a place before the one from which the search goes on, whatever the image and what is asked for
   next-earlier : (image : List ℕ) (query : Query) (from at : ℕ) → at < from → RuledOut (next.Post κs) (lent x image, (query, (from, tt))) (At at)
   unfolding placesFrom

@@ -8,7 +8,7 @@ use native.Mathlib.Omega.{arith}
 use contract.Lifetimes.{Lfts}
 use denote.Ref.{now}
 use lib.Dec.{ltb, eqb}
-use lib.ListN.{length, getD, take}
+use lib.ListN.{length, getD, take, replicate}
 use lib.Seq.{getD-drop}
 use borrow.Author.Tests.{le-ltb}
 use Rattle.octets.specs.Answer.{Answer}
@@ -49,9 +49,13 @@ use Rattle.frame.proofs.write.Reads as write
 abbrev nack : Kept → Reply
 nack user = record { control = control.Nack; link = record { 0 = 1 }; user = user }
 
+-- a data reply, by the octets that are kept and how many of them count
+abbrev data-with : List ℕ → ℕ → LinkAddress → Reply
+data-with kept many link = record { control = control.Data; link = link; user = record { octets = kept; length = many } }
+
 -- data of one octet
 abbrev data-of : ℕ → List ℕ → LinkAddress → Reply
-data-of octet behind link = record { control = control.Data; link = link; user = record { octets = octet ∷ behind; length = 1 } }
+data-of octet behind link = data-with (octet ∷ behind) 1 link
 
 -- a verdict of another number
 abbrev Not : ℕ → f.Verdict → Type 0
@@ -237,4 +241,18 @@ module _ (κs : Lfts 1) (x : Place) (octets : List ℕ) where
       → RuledOut (write.Post κs) (lent x octets, (data-of octet behind link, tt)) (Octets 9)
   unfolding answerTo replyOctets replyFrame f.written f.startWith f.bodyOf lowOctets octetsOf
   write-users octet behind link room s p =
+      omega (arith, ap (λ (r : Written). getD (writtenSays r .values) 0 0) (rw (le-ltb (length octets) 261 room) at (p .answers)))
+
+  -- a data reply without user octets that has another length than 9
+  write-none : (kept : List ℕ) (link : LinkAddress) (many : ℕ) → 261 ≤ length octets → (many ≡ 9 → ⊥)
+      → RuledOut (write.Post κs) (lent x octets, (data-with kept 0 link, tt)) (Octets many)
+  unfolding answerTo replyOctets replyFrame f.written f.startWith f.bodyOf lowOctets octetsOf
+  write-none kept link many room n s p =
+      n (cc (ap (λ (r : Written). getD (writtenSays r .values) 0 0) (rw (le-ltb (length octets) 261 room) at (p .answers))))
+
+  -- more user octets than are kept, where their number is over 252
+  write-over : (link : LinkAddress) → 261 ≤ length octets
+      → RuledOut (write.Post κs) (lent x octets, (data-with (replicate 252 1) 255 link, tt)) (Octets 264)
+  unfolding answerTo replyOctets replyFrame f.written f.startWith f.bodyOf lowOctets octetsOf
+  write-over link room s p =
       omega (arith, ap (λ (r : Written). getD (writtenSays r .values) 0 0) (rw (le-ltb (length octets) 261 room) at (p .answers)))

@@ -1,0 +1,199 @@
+// What a gap answers, the state of the card, and the centre's frames that ask it for something.
+ghost use Prim.Native.Nat.{_<_};
+use crate::frames;
+use crate::voice;
+use crate::voice::Pen;
+use crate::words;
+use address::LinkAddress;
+use card::Card;
+use deeds::Order;
+use deeds::Waiting;
+use fields::IdentityFound;
+use frame::Control;
+use frame::Reply;
+use frame::Service;
+use link::Link;
+use rules::Rule;
+use rules::Session;
+
+// The control field of a service that counts, with the FCB that is new to the card.
+fn counted(service: u8, last: u8) -> u8 {
+    if last == 0 {
+        return std::num::wrapping_add_u8(service, Service::FCB);
+    }
+    service
+}
+
+fn link_of(found: IdentityFound) -> LinkAddress {
+    match found {
+        IdentityFound::Is(identity) => identity.link,
+        IdentityFound::Nothing => LinkAddress(0),
+    }
+}
+
+// The ACK of the card that is lent an image.
+pub fn acknowledged(image: &[u8]) -> Reply {
+    Reply::plain(Control::Ack, link_of(fields::identity_of(image)))
+}
+
+// C A A.
+fn addressed(service: u8, last: u8, image: &[u8]) -> [u8; 3] {
+    let to = link_of(fields::identity_of(image));
+    let link = octets::low_octets_2(to.0);
+    [counted(service, last), link[0], link[1]]
+}
+
+// A collection.
+pub fn collection(last: u8, image: &[u8]) -> [u8; 6] {
+    let body = addressed(Service::COLLECTION, last, image);
+    let sum = octets::checksum(&body);
+    [0x10, body[0], body[1], body[2], sum, 0x16]
+}
+
+// User data with a message, written into a space, and how many octets the frame has: none where a message has more than 252.
+pub fn user_data(space: &mut [u8], last: u8, image: &[u8], message: &[u8]) -> usize {
+    if 252 < message.len() {
+        return 0;
+    }
+    let body = addressed(Service::USER_DATA, last, image);
+    let sum = std::num::wrapping_add_u8(octets::checksum(&body), octets::checksum(message));
+    let l = message.len() as u8 + 3;
+    octets::put(space, 0, &[0x68, l, l, 0x68, body[0], body[1], body[2]]);
+    octets::put(space, 7, message);
+    octets::put(space, 7 + message.len(), &[sum, 0x16]);
+    message.len() + 9
+}
+
+// The place of a rule among the words.
+fn rule_place(rule: Rule) -> u8
+    ensures { λ r. ⌜ r < 19 ⌝ }
+{
+    match rule {
+        Rule::Marked => 0,
+        Rule::UnknownType => 1,
+        Rule::NoSession => 2,
+        Rule::UnknownPoint => 3,
+        Rule::OtherSession => 4,
+        Rule::Shape => 5,
+        Rule::Address => 6,
+        Rule::Objects => 7,
+        Rule::ReadingLabel => 8,
+        Rule::ReadingRange => 9,
+        Rule::NoReading => 10,
+        Rule::EventLabel => 11,
+        Rule::EventRange => 12,
+        Rule::NoEvent => 13,
+        Rule::ClockUnset => 14,
+        Rule::NoDates => 15,
+        Rule::TimeLabel => 16,
+        Rule::WrongPassword => 17,
+        Rule::Accepted => 18,
+    }
+}
+
+// The rule that a message met, or that no message is known.
+pub enum Met {
+    By(Rule),
+    Unknown,
+}
+
+fn rule(page: &mut [u8], pen: Pen, met: Met) -> Pen {
+    match met {
+        Met::By(rule) => words::rule(page, pen, rule_place(rule)),
+        Met::Unknown => pen,
+    }
+}
+
+fn order(page: &mut [u8], pen: Pen, order: Order, time: [u8; 10]) -> Pen {
+    match order {
+        Order::NoOrder => words::ordered(page, pen, 0),
+        Order::SetClock => {
+            let said = words::ordered(page, pen, 1);
+            voice::pairs(page, said, octets::part(&time, 0, 7))
+        }
+        Order::SetDates => {
+            let said = words::ordered(page, pen, 2);
+            voice::pairs(page, said, &time)
+        }
+    }
+}
+
+// The octets of a reply, and what they say.
+fn reply(page: &mut [u8], pen: Pen, sent: &[u8]) -> Pen {
+    let said = words::reply(page, pen);
+    let shown = voice::pairs(page, said, sent);
+    let line = words::new_line(page, shown);
+    frames::explain(page, line, sent, false)
+}
+
+// A frame that is answered: the order, the rule where the reply is an ACK, the reply.
+fn answer(page: &mut [u8], pen: Pen, ordered: Order, time: [u8; 10], met: Met, sent: &[u8]) -> Pen {
+    let said = voice::deeper(order(page, pen, ordered, time));
+    if octets::octet_at(sent, 1) == Control::ACK {
+        let ruled = rule(page, said, met);
+        return voice::back(reply(page, ruled, sent));
+    }
+    voice::back(reply(page, said, sent))
+}
+
+// What a gap answered.
+pub fn gap(
+    page: &mut [u8],
+    pen: Pen,
+    number: u8,
+    ordered: Order,
+    time: [u8; 10],
+    met: Met,
+    sent: &[u8],
+) -> Pen {
+    let said = frames::number(page, pen, number);
+    if sent.len() == 0 {
+        return said;
+    }
+    answer(page, said, ordered, time, met, sent)
+}
+
+fn session(page: &mut [u8], pen: Pen, session: Session) -> Pen {
+    match session {
+        Session::Closed => words::session(page, pen, 1, 0),
+        Session::Open(point) => words::session(page, pen, 0, point.0),
+    }
+}
+
+fn waits(page: &mut [u8], pen: Pen, waiting: Waiting) -> Pen {
+    match waiting {
+        Waiting::NoReply => words::waits(page, pen, 0, 0),
+        Waiting::Mirror(cause) => words::waits(page, pen, 1, cause as u64),
+        Waiting::Denied => words::waits(page, pen, 2, 0),
+        Waiting::Begin => words::waits(page, pen, 3, 0),
+        Waiting::More(given) => words::waits(page, pen, 4, given as u64),
+        Waiting::Type71 => words::waits(page, pen, 5, 0),
+        Waiting::Type72 => words::waits(page, pen, 6, 0),
+        Waiting::Type131 => words::waits(page, pen, 7, 0),
+    }
+}
+
+// The place of whether the link is reset.
+fn reset_place(reset: bool) -> u8
+    ensures { λ r. ⌜ r < 2 ⌝ }
+{
+    if reset {
+        return 1;
+    }
+    0
+}
+
+fn link(page: &mut [u8], pen: Pen, link: Link) -> Pen {
+    let open = link.session;
+    let pending = link.pending;
+    let waiting = pending.waiting;
+    let reset = words::link(page, pen, reset_place(link.reset), link.fcb);
+    let said = session(page, reset, open);
+    waits(page, said, waiting)
+}
+
+pub fn state(page: &mut [u8], pen: Pen, card: Card) -> Pen {
+    let state = card.link;
+    let said = link(page, pen, state);
+    words::damaged(page, said, card.damaged)
+}

@@ -1,0 +1,166 @@
+// Explains what the card makes of octets, line by line: labels, frames, messages, images, and a card that is given runs. Text in, text out.
+mod bench;
+mod cards;
+mod frames;
+mod images;
+mod labels;
+mod lines;
+mod messages;
+mod requests;
+mod voice;
+mod words;
+
+use bench::Bench;
+use lines::Sought;
+use requests::Request;
+use stream::Window;
+
+// The window begins with a whole line, or with what is left of the input, or it is full. Each turn reads once.
+fn read_line(space: &mut [u8], window: Window) -> Window {
+    let mut now = window;
+    let mut i = 0u32;
+    while i < 1048576 {
+        let had = stream::seen(space, now).len();
+        let size = lines::size(stream::seen(space, now));
+        now = stream::filled(space, now, size);
+        if stream::seen(space, now).len() == had {
+            return now;
+        }
+        i += 1;
+    }
+    now
+}
+
+// What is read and has no newline: all there is of the input's last line, or a part of a line that is too long.
+fn is_too_long(space: &[u8], window: Window) -> bool {
+    let read = stream::seen(space, window);
+    if read.len() < space.len() {
+        return false;
+    }
+    read.len() < lines::size(read)
+}
+
+// The request after the line that stands first in the window.
+fn request_after(
+    request: Request,
+    number: u64,
+    space: &[u8],
+    window: Window,
+    given: &mut [u8],
+) -> Request {
+    let read = stream::seen(space, window);
+    if read.len() == 0 {
+        return requests::with_end(request);
+    }
+    if is_too_long(space, window) {
+        return requests::with_long_line(request, number);
+    }
+    requests::with_line(request, number, first_line(read), given)
+}
+
+fn first_line(read: &[u8]) -> &[u8] {
+    octets::part(read, 0, lines::find(read, 0, Sought::Newline))
+}
+
+// The window behind its first line, which is read on where it is too long.
+fn behind_line(space: &mut [u8], window: Window) -> Window {
+    let mut now = window;
+    let mut i = 0u64;
+    while i < u64::MAX {
+        let long = is_too_long(space, now);
+        let size = lines::size(stream::seen(space, now));
+        now = stream::taken(now, size);
+        if !long {
+            return now;
+        }
+        now = read_line(space, now);
+        i += 1;
+    }
+    now
+}
+
+// The bench, the request that the last line belongs to, what is read of the lines to come, and whether any is to be read.
+struct Desk {
+    bench: Bench,
+    request: Request,
+    window: Window,
+    going: bool,
+}
+
+fn start() -> Desk {
+    Desk {
+        bench: bench::start(),
+        request: requests::none(),
+        window: Window { from: 0, to: 0 },
+        going: true,
+    }
+}
+
+// The next line is read. What waits is written before that.
+fn reading(desk: Desk, space: &mut [u8], page: &[u8]) -> Desk {
+    let request = desk.request;
+    let window = desk.window;
+    Desk {
+        bench: bench::before_reading(desk.bench, stream::seen(space, window), page),
+        request,
+        window: read_line(space, window),
+        going: desk.going,
+    }
+}
+
+// The line that is read is explained, and passed.
+fn explaining(
+    desk: Desk,
+    number: u64,
+    space: &mut [u8],
+    given: &mut [u8],
+    image: &mut [u8],
+    page: &mut [u8],
+) -> Desk {
+    let window = desk.window;
+    let request = request_after(desk.request, number, space, window, given);
+    let line = first_line(stream::seen(space, window));
+    let bench = bench::after_line(desk.bench, request, line, given, image, page);
+    Desk {
+        bench,
+        request,
+        window: behind_line(space, window),
+        going: bench::is_going(bench),
+    }
+}
+
+fn turn(
+    desk: Desk,
+    number: u64,
+    space: &mut [u8],
+    given: &mut [u8],
+    image: &mut [u8],
+    page: &mut [u8],
+) -> Desk {
+    let next = reading(desk, space, page);
+    explaining(next, number, space, given, image, page)
+}
+
+// Lines until the input ends. A loop must end, so its budget is the line's number: no input uses it up.
+fn explain_lines(space: &mut [u8], given: &mut [u8], image: &mut [u8], page: &mut [u8]) {
+    let mut desk = start();
+    let mut number = 0;
+    while number < u64::MAX {
+        number += 1;
+        let next = turn(desk, number, space, given, image, page);
+        if next.going {
+            desk = next;
+        } else {
+            return;
+        }
+    }
+}
+
+// The longest line with its newline, the octets of the longest request, an image, and texts that wait to be written, among them a line.
+fn main() {
+    let mut space = [0u8; 262145];
+    let mut given = [0u8; 65600];
+    let mut image = [0u8; 65600];
+    let mut page = [0u8; 262145];
+    explain_lines(&mut space, &mut given, &mut image, &mut page);
+}
