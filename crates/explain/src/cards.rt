@@ -2,7 +2,6 @@
 ghost use Prim.Native.Nat.{_<_};
 use crate::frames;
 use crate::voice;
-use crate::voice::Pen;
 use crate::words;
 use address::LinkAddress;
 use card::Card;
@@ -12,7 +11,6 @@ use fields::IdentityFound;
 use frame::Control;
 use frame::Reply;
 use frame::Service;
-use link::Link;
 use rules::Rule;
 use rules::Session;
 
@@ -97,79 +95,69 @@ pub enum Met {
     Unknown,
 }
 
-fn rule(page: &mut [u8], pen: Pen, met: Met) -> Pen {
+fn rule(met: Met) {
     match met {
-        Met::By(rule) => words::rule(page, pen, rule_place(rule)),
-        Met::Unknown => pen,
+        Met::By(rule) => {
+            voice::line(2);
+            words::rule(rule_place(rule));
+        }
+        Met::Unknown => {}
     }
 }
 
-fn order(page: &mut [u8], pen: Pen, order: Order, time: [u8; 10]) -> Pen {
+fn order(order: Order, time: [u8; 10]) {
     match order {
-        Order::NoOrder => words::ordered(page, pen, 0),
+        Order::NoOrder => words::ordered(0),
         Order::SetClock => {
-            let said = words::ordered(page, pen, 1);
-            voice::pairs(page, said, octets::part(&time, 0, 7))
+            words::ordered(1);
+            voice::pairs(octets::part(&time, 0, 7));
         }
         Order::SetDates => {
-            let said = words::ordered(page, pen, 2);
-            voice::pairs(page, said, &time)
+            words::ordered(2);
+            voice::pairs(&time);
         }
     }
 }
 
 // The octets of a reply, and what they say.
-fn reply(page: &mut [u8], pen: Pen, sent: &[u8]) -> Pen {
-    let said = words::reply(page, pen);
-    let shown = voice::pairs(page, said, sent);
-    let line = words::new_line(page, shown);
-    frames::explain(page, line, sent, false)
+fn reply(sent: &[u8]) {
+    voice::line(2);
+    words::reply();
+    voice::pairs(sent);
+    voice::line(2);
+    frames::explain(4, sent, false);
 }
 
-// A frame that is answered: the order, the rule where the reply is an ACK, the reply.
-fn answer(page: &mut [u8], pen: Pen, ordered: Order, time: [u8; 10], met: Met, sent: &[u8]) -> Pen {
-    let said = voice::deeper(order(page, pen, ordered, time));
-    if octets::octet_at(sent, 1) == Control::ACK {
-        let ruled = rule(page, said, met);
-        return voice::back(reply(page, ruled, sent));
-    }
-    voice::back(reply(page, said, sent))
-}
-
-// What a gap answered.
-pub fn gap(
-    page: &mut [u8],
-    pen: Pen,
-    number: u8,
-    ordered: Order,
-    time: [u8; 10],
-    met: Met,
-    sent: &[u8],
-) -> Pen {
-    let said = frames::number(page, pen, number);
+// What a gap answered: its number; where a frame is answered, the order, the rule where the reply is an ACK, the reply.
+pub fn gap(number: u8, ordered: Order, time: [u8; 10], met: Met, sent: &[u8]) {
+    frames::number(number);
     if sent.len() == 0 {
-        return said;
+        return;
     }
-    answer(page, said, ordered, time, met, sent)
+    order(ordered, time);
+    if octets::octet_at(sent, 1) == Control::ACK {
+        rule(met);
+    }
+    reply(sent);
 }
 
-fn session(page: &mut [u8], pen: Pen, session: Session) -> Pen {
+fn session(session: Session) {
     match session {
-        Session::Closed => words::session(page, pen, 1, 0),
-        Session::Open(point) => words::session(page, pen, 0, point.0),
+        Session::Open(point) => words::session(0, point.0),
+        Session::Closed => words::session(1, 0),
     }
 }
 
-fn waits(page: &mut [u8], pen: Pen, waiting: Waiting) -> Pen {
+fn waits(waiting: Waiting) {
     match waiting {
-        Waiting::NoReply => words::waits(page, pen, 0, 0),
-        Waiting::Mirror(cause) => words::waits(page, pen, 1, cause as u64),
-        Waiting::Denied => words::waits(page, pen, 2, 0),
-        Waiting::Begin => words::waits(page, pen, 3, 0),
-        Waiting::More(given) => words::waits(page, pen, 4, given as u64),
-        Waiting::Type71 => words::waits(page, pen, 5, 0),
-        Waiting::Type72 => words::waits(page, pen, 6, 0),
-        Waiting::Type131 => words::waits(page, pen, 7, 0),
+        Waiting::NoReply => words::waits(0, 0),
+        Waiting::Mirror(cause) => words::waits(1, cause as u64),
+        Waiting::Denied => words::waits(2, 0),
+        Waiting::Begin => words::waits(3, 0),
+        Waiting::More(given) => words::waits(4, given as u64),
+        Waiting::Type71 => words::waits(5, 0),
+        Waiting::Type72 => words::waits(6, 0),
+        Waiting::Type131 => words::waits(7, 0),
     }
 }
 
@@ -183,17 +171,13 @@ fn reset_place(reset: bool) -> u8
     0
 }
 
-fn link(page: &mut [u8], pen: Pen, link: Link) -> Pen {
+pub fn state(card: Card) {
+    let link = card.link;
     let open = link.session;
     let pending = link.pending;
     let waiting = pending.waiting;
-    let reset = words::link(page, pen, reset_place(link.reset), link.fcb);
-    let said = session(page, reset, open);
-    waits(page, said, waiting)
-}
-
-pub fn state(page: &mut [u8], pen: Pen, card: Card) -> Pen {
-    let state = card.link;
-    let said = link(page, pen, state);
-    words::damaged(page, said, card.damaged)
+    words::link(reset_place(link.reset), link.fcb);
+    session(open);
+    waits(waiting);
+    words::damaged(card.damaged);
 }

@@ -2,7 +2,6 @@
 ghost use Prim.Native.Nat.{_<_};
 use crate::messages;
 use crate::voice;
-use crate::voice::Pen;
 use crate::words;
 use address::LinkAddress;
 use frame::Asked;
@@ -11,12 +10,12 @@ use frame::Form;
 use frame::Judged;
 use frame::Service;
 
-fn service(page: &mut [u8], pen: Pen, service: Service) -> Pen {
+fn service(service: Service) {
     match service {
-        Service::Reset => words::asks(page, pen, 0, 0),
-        Service::UserData(bit) => words::asks(page, pen, 1, bit),
-        Service::Status => words::asks(page, pen, 2, 0),
-        Service::Collection(bit) => words::asks(page, pen, 3, bit),
+        Service::Reset => words::asks(0, 0),
+        Service::UserData(bit) => words::asks(1, bit),
+        Service::Status => words::asks(2, 0),
+        Service::Collection(bit) => words::asks(3, bit),
     }
 }
 
@@ -39,78 +38,74 @@ fn place(form: Form, control: u8) -> u8
     }
 }
 
-// A line of its own says that it is a reply, `named`; behind the reply's octets that would be said twice.
-fn reply(page: &mut [u8], pen: Pen, place: u8, named: bool) -> Pen
+// The number of a gap, which is 0 to 9.
+pub fn number(number: u8) {
+    words::number(number % 10);
+}
+
+// A reply's control field. A line of its own says that it is a reply, `named`; below the reply's octets that would be said twice.
+fn reply(place: u8, named: bool)
     requires { ⌜ place < 5 ⌝ }
 {
     if named {
-        let said = words::is_reply(page, pen);
-        return words::replies(page, said, place);
+        words::is_reply();
     }
-    words::replies(page, pen, place)
+    words::replies(place);
 }
 
-// The number of a gap, which is 0 to 9.
-pub fn number(page: &mut [u8], pen: Pen, number: u8) -> Pen {
-    words::number(page, pen, number % 10)
-}
-
-// Bit 7 is set in the centre's control fields, and in no reply's.
-fn other(page: &mut [u8], pen: Pen, form: Form, control: u8, named: bool) -> Pen {
+// A control field that asks for nothing that is offered. Bit 7 is set in the centre's, and in no reply's.
+fn other(form: Form, control: u8, named: bool) {
     if control / 64 % 2 == 1 {
-        return words::number(page, pen, 6);
+        return number(6);
     }
     let place = place(form, control);
     if place < 5 {
-        return reply(page, pen, place, named);
+        return reply(place, named);
     }
-    words::no_reply(page, pen, control)
+    words::no_reply(control)
 }
 
-fn control(page: &mut [u8], pen: Pen, form: Form, control: u8, named: bool) -> Pen {
+fn control(form: Form, control: u8, to: LinkAddress, named: bool) {
     match frame::service_of(form, control) {
-        Asked::Is(asked) => service(page, pen, asked),
-        Asked::NotOffered => other(page, pen, form, control, named),
+        Asked::Is(asked) => service(asked),
+        Asked::NotOffered => other(form, control, named),
     }
+    words::link_address(to.0);
 }
 
 // What stands in a frame's user octets: a message, or too few octets for one.
-fn user(page: &mut [u8], pen: Pen, user: &[u8]) -> Pen {
+fn user(indent: usize, user: &[u8])
+    requires { ⌜ indent < 8 ⌝ }
+{
+    words::user_octets(user.len() as u64);
     if user.len() < 6 {
-        return messages::shown(page, pen, user);
+        return messages::unread(indent, user);
     }
-    let line = words::new_line(page, pen);
-    messages::explain(page, line, user)
+    voice::line(indent);
+    messages::explain(indent + 2, user)
 }
 
-fn fixed(page: &mut [u8], pen: Pen, octet: u8, to: LinkAddress, named: bool) -> Pen {
-    let said = control(page, pen, Form::Fixed, octet, named);
-    words::link_address(page, said, to.0)
+fn variable(indent: usize, octet: u8, to: LinkAddress, carried: &[u8], named: bool)
+    requires { ⌜ indent < 8 ⌝ }
+{
+    control(Form::Variable, octet, to, named);
+    user(indent, carried);
 }
 
-fn variable(
-    page: &mut [u8],
-    pen: Pen,
-    octet: u8,
-    to: LinkAddress,
-    carried: &[u8],
-    named: bool,
-) -> Pen {
-    let said = control(page, pen, Form::Variable, octet, named);
-    let addressed = words::link_address(page, said, to.0);
-    let counted = words::user_octets(page, addressed, carried.len() as u64);
-    voice::back(user(page, voice::deeper(counted), carried))
-}
-
-// A run; a reply is said to be one where it is to be `named`.
-pub fn explain(page: &mut [u8], pen: Pen, run: &[u8], named: bool) -> Pen {
+// A run; what it carries is indented so far, and a reply is said to be one where it is to be `named`.
+pub fn explain(indent: usize, run: &[u8], named: bool)
+    requires { ⌜ indent < 8 ⌝ }
+{
     match frame::judge(run) {
-        Judged::Faulty(why) => number(page, pen, why.number()),
-        Judged::Fixed { control, link } => fixed(page, pen, control, link, named),
+        Judged::Faulty(why) => number(why.number()),
+        Judged::Fixed {
+            control: octet,
+            link,
+        } => control(Form::Fixed, octet, link, named),
         Judged::Variable {
-            control,
+            control: octet,
             link,
             users,
-        } => variable(page, pen, control, link, frame::user(run, users), named),
+        } => variable(indent, octet, link, frame::user(run, users), named),
     }
 }

@@ -3,13 +3,9 @@ ghost use Prim.Native.Nat.{_<_};
 use crate::labels;
 use crate::messages;
 use crate::voice;
-use crate::voice::Pen;
 use crate::words;
-use faults::ImageFault;
 use faults::ImageRule;
-use fields::Dates;
 use fields::DatesFound;
-use fields::Identity;
 use fields::IdentityFound;
 use fields::Key;
 use label::LabelB;
@@ -81,124 +77,102 @@ fn goes_on(group: Group, next: Key) -> bool {
     key.record_address == next.record_address
 }
 
-fn who(page: &mut [u8], pen: Pen, identity: Identity) -> Pen {
-    let link = identity.link;
-    words::head(
-        page,
-        pen,
-        link.0,
-        identity.date,
-        identity.maker,
-        identity.product,
-    )
-}
-
-fn identity(page: &mut [u8], pen: Pen, found: IdentityFound) -> Pen {
+fn identity(found: IdentityFound) {
     match found {
-        IdentityFound::Is(identity) => who(page, pen, identity),
-        IdentityFound::Nothing => pen,
+        IdentityFound::Is(identity) => {
+            let link = identity.link;
+            words::head(link.0, identity.date, identity.maker, identity.product);
+        }
+        IdentityFound::Nothing => {}
     }
 }
 
-fn both(page: &mut [u8], pen: Pen, dates: Dates) -> Pen {
-    let first = dates.first;
-    let second = dates.second;
-    messages::range(page, pen, 2, first, second)
-}
-
-fn dates(page: &mut [u8], pen: Pen, found: DatesFound) -> Pen {
+fn dates(found: DatesFound) {
     match found {
-        DatesFound::Is(dates) => both(page, pen, dates),
-        DatesFound::Nothing => pen,
+        DatesFound::Is(dates) => {
+            let first = dates.first;
+            let second = dates.second;
+            messages::range(2, 2, first, second);
+        }
+        DatesFound::Nothing => {}
     }
 }
 
 // Readings have labels a, and events labels b.
-fn labelled(page: &mut [u8], pen: Pen, group: Group) -> Pen {
+fn counted(group: Group) {
     let key = group.key;
     let first = key.label;
     let last = group.last;
     let seconds = key.kind == 5;
-    let from = words::end(page, pen, 0);
-    let begun = labels::label(page, from, first, seconds);
-    let to = words::end(page, begun, 1);
-    labels::label(page, to, last, seconds)
+    messages::addressed(key.point, key.record_address);
+    words::many(group.many, key.kind % 2);
+    words::end(0);
+    labels::label(first, seconds);
+    words::end(1);
+    labels::label(last, seconds);
 }
 
-fn counted(page: &mut [u8], pen: Pen, group: Group) -> Pen {
-    let key = group.key;
-    let line = words::new_line(page, pen);
-    let named = messages::addressed(page, line, key.point, key.record_address);
-    let said = words::many(page, named, group.many, key.kind % 2);
-    labelled(page, said, group)
-}
-
-// A group that has ended.
-fn told(page: &mut [u8], pen: Pen, group: Group, image: &[u8]) -> Pen {
+// A group that has ended. The dates are on two lines.
+fn told(group: Group, image: &[u8]) {
     let key = group.key;
     let point = key.point;
     let kind = key.kind;
+    if kind == 3 {
+        return dates(fields::dates_of(image));
+    }
+    voice::line(2);
     match kind {
-        1 => identity(page, pen, fields::identity_of(image)),
-        2 => words::point(page, pen, point.0),
-        3 => dates(page, pen, fields::dates_of(image)),
-        _ => counted(page, pen, group),
+        1 => identity(fields::identity_of(image)),
+        2 => words::point(point.0),
+        _ => counted(group),
     }
 }
 
-fn dateless(page: &mut [u8], pen: Pen, from: u8, to: u8) -> Pen {
-    if 2 < from {
-        return pen;
-    }
-    if to < 4 {
-        return pen;
-    }
-    words::missing(page, pen, 1)
-}
-
-// Of readings and events, which do not come between a record of one kind and one of another.
-fn lacking(from: u8, to: u8) -> u8
-    ensures { λ r. ⌜ r < 5 ⌝ }
+fn absent(what: u8)
+    requires { ⌜ what < 4 ⌝ }
 {
-    if to < 5 {
-        return 0;
-    }
-    if from < 4 {
-        if to == 5 {
-            return 2;
-        }
-        return 4;
-    }
-    if from == 4 {
-        if to == 5 {
-            return 0;
-        }
-        return 3;
-    }
-    0
+    voice::line(2);
+    words::missing(what);
 }
 
-// Records stand in the order of their kinds; 6 stands for the image's end, whose key is of kind 0.
-fn to_kind(kind: u8) -> u8 {
+// What does not come between a record of one kind and one of another. Records stand in the order of their kinds; the end counts as kind 6.
+fn missing(from: u8, to: u8) {
+    if from < 3 {
+        if 3 < to {
+            absent(0);
+        }
+    }
+    if to == 5 {
+        if from < 4 {
+            absent(1);
+        }
+    }
+    if to == 6 {
+        if from < 4 {
+            absent(3);
+        }
+        if from == 4 {
+            absent(2);
+        }
+    }
+}
+
+// The key of the image's end is of kind 0.
+fn or_end(kind: u8) -> u8 {
     if kind == 0 {
         return 6;
     }
     kind
 }
 
-fn missing(page: &mut [u8], pen: Pen, from: u8, to: u8) -> Pen {
-    let said = dateless(page, pen, from, to);
-    words::missing(page, said, lacking(from, to))
-}
-
 // What is said between two records: nothing inside a group.
-fn between(page: &mut [u8], pen: Pen, group: Group, next: Key, image: &[u8]) -> Pen {
-    if goes_on(group, next) {
-        return pen;
-    }
+fn between(group: Group, next: Key, image: &[u8]) {
     let key = group.key;
-    let said = told(page, pen, group, image);
-    missing(page, said, key.kind, to_kind(next.kind))
+    if goes_on(group, next) {
+        return;
+    }
+    told(group, image);
+    missing(key.kind, or_end(next.kind));
 }
 
 fn grouped(group: Group, next: Key) -> Group {
@@ -209,51 +183,37 @@ fn grouped(group: Group, next: Key) -> Group {
 }
 
 // Record after record of a sound image, which has fewer than 65,535.
-fn records(page: &mut [u8], pen: Pen, image: &[u8]) -> Pen {
-    let mut now = pen;
+fn records(image: &[u8]) {
     let mut at = 1;
     let mut group = begun(fields::key_at(image, at));
     let mut i = 0u32;
     while i < 65535 {
         at = records::after(image, at);
         let next = fields::key_at(image, at);
-        now = between(page, now, group, next, image);
+        between(group, next, image);
         group = grouped(group, next);
         if next.kind == 0 {
-            return now;
+            return;
         }
         i += 1;
     }
-    now
 }
 
-fn sound(page: &mut [u8], pen: Pen, image: &[u8]) -> Pen {
-    let said = words::image(page, pen, image.len() as u64, 1);
-    voice::back(records(page, voice::deeper(said), image))
-}
-
-// The record at fault, where it is not the image as a whole.
-fn where_at(page: &mut [u8], pen: Pen, number: usize, place: usize) -> Pen {
-    if number == 0 {
-        return pen;
-    }
-    words::record(page, pen, number as u64, place as u64)
-}
-
-fn unsound(page: &mut [u8], pen: Pen, image: &[u8], fault: ImageFault, why: u8) -> Pen
-    requires { ⌜ why < 19 ⌝ }
-{
-    let said = words::image(page, pen, image.len() as u64, 0);
-    let placed = where_at(page, said, fault.number, fault.place);
-    words::unsound(page, placed, why)
-}
-
-pub fn explain(page: &mut [u8], pen: Pen, image: &[u8]) -> Pen {
+// The record at fault is named, where it is not the image as a whole.
+pub fn explain(image: &[u8]) {
     let fault = faults::of_image(image);
     let rule = fault.rule;
     let why = place(rule);
-    if why < 19 {
-        return unsound(page, pen, image, fault, why);
+    let many = image.len() as u64;
+    if why == 19 {
+        words::image(many, 1);
+        return records(image);
     }
-    sound(page, pen, image)
+    words::image(many, 0);
+    if 0 < fault.number {
+        words::record(fault.number as u64, fault.place as u64);
+    }
+    if why < 19 {
+        words::unsound(why);
+    }
 }

@@ -2,7 +2,6 @@
 // minute, without its second.
 ghost use Prim.Native.Nat.{_<_};
 use crate::voice;
-use crate::voice::Pen;
 use crate::words;
 use faults::LabelFault;
 use label::LabelA;
@@ -30,60 +29,31 @@ fn place(fault: LabelFault) -> u8
 }
 
 // What is wrong with a label, if anything is.
-fn fault(page: &mut [u8], pen: Pen, fault: LabelFault) -> Pen {
-    let place = place(fault);
+fn fault(label: LabelB) {
+    let place = place(faults::of_label_b(label));
     if place < 12 {
-        return words::not_valid(page, pen, place);
+        words::not_valid(place);
     }
-    pen
 }
 
-fn seconds(page: &mut [u8], pen: Pen, label: LabelB, seconds: bool) -> Pen {
-    if seconds {
-        return words::seconds(page, pen, label.second(), label.millisecond());
-    }
-    pen
-}
-
-// SU is the highest bit of the hour's octet.
-fn time(page: &mut [u8], pen: Pen, label: LabelB, with_seconds: bool) -> Pen {
+// A label inside something else: its time, and what is wrong with it. SU is the highest bit of the hour's octet.
+pub fn label(label: LabelB, seconds: bool) {
     let a = label.a;
     let t = a.date_time();
-    let dated = words::when(page, pen, t.year, t.month, t.day, t.hour, t.minute);
-    let timed = seconds(page, dated, label, with_seconds);
-    words::season(page, timed, a.hour / 128)
+    words::when(t.year, t.month, t.day, t.hour, t.minute);
+    if seconds {
+        words::seconds(label.second(), label.millisecond());
+    }
+    words::season(a.hour / 128);
+    fault(label);
 }
 
 fn at_minute(a: LabelA) -> LabelB {
     LabelB { low: 0, high: 0, a }
 }
 
-// A label inside something else: its time, and what is wrong with it.
-pub fn label(page: &mut [u8], pen: Pen, label: LabelB, seconds: bool) -> Pen {
-    let said = time(page, pen, label, seconds);
-    fault(page, said, faults::of_label_b(label))
-}
-
-pub fn label_a(page: &mut [u8], pen: Pen, a: LabelA) -> Pen {
-    label(page, pen, at_minute(a), false)
-}
-
-// A number that is not below 0; 0 for one that is.
-fn natural(n: i64) -> u64 {
-    if 0 <= n {
-        return n as u64;
-    }
-    0
-}
-
-// A label by itself: the same, or that it is valid, and its minute since 1 January 2000 00:00.
-fn alone(page: &mut [u8], pen: Pen, given: LabelB, seconds: bool) -> Pen {
-    let a = given.a;
-    let said = label(page, pen, given, seconds);
-    if given.is_valid() {
-        return words::valid(page, said, natural(a.instant()));
-    }
-    said
+pub fn label_a(a: LabelA) {
+    label(at_minute(a), false);
 }
 
 // The label in five octets or seven.
@@ -94,8 +64,22 @@ fn read(given: &[u8]) -> LabelB {
     LabelB::read(given)
 }
 
-pub fn explain(page: &mut [u8], pen: Pen, given: &[u8]) -> Pen {
-    alone(page, pen, read(given), given.len() == 7)
+// A number that is not below 0; 0 for one that is.
+fn natural(n: i64) -> u64 {
+    if 0 <= n {
+        return n as u64;
+    }
+    0
+}
+
+// A label by itself: where it is valid, also its minute since 1 January 2000 00:00.
+pub fn explain(given: &[u8]) {
+    let read = read(given);
+    let a = read.a;
+    label(read, given.len() == 7);
+    if read.is_valid() {
+        words::valid(natural(a.instant()));
+    }
 }
 
 fn order(first: LabelB, second: LabelB) -> u8
@@ -111,39 +95,28 @@ fn order(first: LabelB, second: LabelB) -> u8
 }
 
 // One of two labels that were to be compared, where it is not valid.
-fn unless_valid(page: &mut [u8], pen: Pen, which: u8, label: LabelB) -> Pen
+fn unless_valid(which: u8, label: LabelB)
     requires { ⌜ which < 2 ⌝ }
 {
     if label.is_valid() {
-        return pen;
+        return;
     }
-    let said = words::which(page, pen, which);
-    fault(page, said, faults::of_label_b(label))
+    voice::line(2);
+    words::which(which);
+    fault(label);
 }
 
-// Of two labels one of which is not valid none comes before the other.
-fn unordered(page: &mut [u8], pen: Pen, first: LabelB, second: LabelB) -> Pen {
-    let said = words::order(page, pen, 3);
-    let judged = unless_valid(page, voice::deeper(said), 0, first);
-    voice::back(unless_valid(page, judged, 1, second))
-}
-
-fn compare_two(page: &mut [u8], pen: Pen, first: LabelB, second: LabelB) -> Pen {
+// Two labels a or two labels b, one behind the other. Where one is not valid none comes before the other.
+pub fn compare(given: &[u8]) {
+    let half = given.len() / 2;
+    let first = read(octets::part(given, 0, half));
+    let second = read(octets::part(given, half, half));
     if first.is_valid() {
         if second.is_valid() {
-            return words::order(page, pen, order(first, second));
+            return words::order(order(first, second));
         }
     }
-    unordered(page, pen, first, second)
-}
-
-// Two labels a or two labels b, one behind the other.
-pub fn compare(page: &mut [u8], pen: Pen, given: &[u8]) -> Pen {
-    let half = given.len() / 2;
-    compare_two(
-        page,
-        pen,
-        read(octets::part(given, 0, half)),
-        read(octets::part(given, half, half)),
-    )
+    words::order(3);
+    unless_valid(0, first);
+    unless_valid(1, second);
 }

@@ -1,4 +1,6 @@
 // Explains what the card makes of octets, line by line: labels, frames, messages, images, and a card that is given runs. Text in, text out.
+ghost use Prim.Native.Nat.{_<_};
+
 mod bench;
 mod cards;
 mod frames;
@@ -13,7 +15,10 @@ mod words;
 use bench::Bench;
 use lines::Sought;
 use requests::Request;
+use requests::Step;
 use stream::Window;
+
+// ---- what is read ----
 
 // The window begins with a whole line, or with what is left of the input, or it is full. Each turn reads once.
 fn read_line(space: &mut [u8], window: Window) -> Window {
@@ -31,31 +36,13 @@ fn read_line(space: &mut [u8], window: Window) -> Window {
     now
 }
 
-// What is read and has no newline: all there is of the input's last line, or a part of a line that is too long.
+// Whether all that is read is a part of one line.
 fn is_too_long(space: &[u8], window: Window) -> bool {
     let read = stream::seen(space, window);
     if read.len() < space.len() {
         return false;
     }
     read.len() < lines::size(read)
-}
-
-// The request after the line that stands first in the window.
-fn request_after(
-    request: Request,
-    number: u64,
-    space: &[u8],
-    window: Window,
-    given: &mut [u8],
-) -> Request {
-    let read = stream::seen(space, window);
-    if read.len() == 0 {
-        return requests::with_end(request);
-    }
-    if is_too_long(space, window) {
-        return requests::with_long_line(request, number);
-    }
-    requests::with_line(request, number, first_line(read), given)
 }
 
 fn first_line(read: &[u8]) -> &[u8] {
@@ -79,7 +66,93 @@ fn behind_line(space: &mut [u8], window: Window) -> Window {
     now
 }
 
-// The bench, the request that the last line belongs to, what is read of the lines to come, and whether any is to be read.
+// The request after the line that stands first in the window.
+fn request_after(
+    request: Request,
+    number: u64,
+    space: &[u8],
+    window: Window,
+    given: &mut [u8],
+) -> Request {
+    let read = stream::seen(space, window);
+    if read.len() == 0 {
+        return requests::with_end(request);
+    }
+    if is_too_long(space, window) {
+        return requests::with_long_line(request, number);
+    }
+    requests::with_line(request, number, first_line(read), given)
+}
+
+// ---- what is done ----
+
+// All words that begin a request.
+fn all_words() {
+    let mut n = 0;
+    while n < 15 {
+        words::request(n);
+        n += 1;
+    }
+}
+
+fn expected(place: u8)
+    requires { ⌜ place < 13 ⌝ }
+{
+    words::expected(place);
+    if place == 0 {
+        all_words();
+    }
+}
+
+fn complain(request: Request) {
+    let argument = request.argument;
+    let matter = argument.matter;
+    let place = requests::place(matter);
+    if argument.column == 0 {
+        words::line(request.line);
+    } else {
+        words::column(request.line, argument.column as u64);
+    }
+    if place < 13 {
+        expected(place);
+    }
+    voice::line(0);
+}
+
+fn pass_on(line: &[u8]) {
+    voice::say(lines::passed_on(line));
+    voice::line(0);
+}
+
+fn carry_out(bench: Bench, request: Request, given: &[u8], image: &mut [u8]) -> Bench {
+    let argument = request.argument;
+    let next = bench::obey(
+        bench,
+        request,
+        octets::part(given, 0, argument.count),
+        image,
+    );
+    voice::line(0);
+    next
+}
+
+fn done(bench: Bench, request: Request, line: &[u8], given: &[u8], image: &mut [u8]) -> Bench {
+    let step = request.step;
+    match step {
+        Step::PassOn => {
+            pass_on(line);
+            bench
+        }
+        Step::Complain => {
+            complain(request);
+            bench
+        }
+        Step::Carry => carry_out(bench, request, given, image),
+        _ => bench,
+    }
+}
+
+// The bench, the request that the last line belongs to, what is read of the lines to come, and whether any is left.
 struct Desk {
     bench: Bench,
     request: Request,
@@ -96,14 +169,14 @@ fn start() -> Desk {
     }
 }
 
-// The next line is read. What waits is written before that.
-fn reading(desk: Desk, space: &mut [u8], page: &[u8]) -> Desk {
+// The next line is read.
+fn reading(desk: Desk, space: &mut [u8]) -> Desk {
+    let bench = desk.bench;
     let request = desk.request;
-    let window = desk.window;
     Desk {
-        bench: bench::before_reading(desk.bench, stream::seen(space, window), page),
+        bench,
         request,
-        window: read_line(space, window),
+        window: read_line(space, desk.window),
         going: desk.going,
     }
 }
@@ -115,39 +188,30 @@ fn explaining(
     space: &mut [u8],
     given: &mut [u8],
     image: &mut [u8],
-    page: &mut [u8],
 ) -> Desk {
     let window = desk.window;
     let request = request_after(desk.request, number, space, window, given);
     let line = first_line(stream::seen(space, window));
-    let bench = bench::after_line(desk.bench, request, line, given, image, page);
     Desk {
-        bench,
+        bench: done(desk.bench, request, line, given, image),
         request,
         window: behind_line(space, window),
-        going: bench::is_going(bench),
+        going: requests::is_going(request),
     }
 }
 
-fn turn(
-    desk: Desk,
-    number: u64,
-    space: &mut [u8],
-    given: &mut [u8],
-    image: &mut [u8],
-    page: &mut [u8],
-) -> Desk {
-    let next = reading(desk, space, page);
-    explaining(next, number, space, given, image, page)
+fn turn(desk: Desk, number: u64, space: &mut [u8], given: &mut [u8], image: &mut [u8]) -> Desk {
+    let next = reading(desk, space);
+    explaining(next, number, space, given, image)
 }
 
 // Lines until the input ends. A loop must end, so its budget is the line's number: no input uses it up.
-fn explain_lines(space: &mut [u8], given: &mut [u8], image: &mut [u8], page: &mut [u8]) {
+fn explain_lines(space: &mut [u8], given: &mut [u8], image: &mut [u8]) {
     let mut desk = start();
     let mut number = 0;
     while number < u64::MAX {
         number += 1;
-        let next = turn(desk, number, space, given, image, page);
+        let next = turn(desk, number, space, given, image);
         if next.going {
             desk = next;
         } else {
@@ -156,11 +220,10 @@ fn explain_lines(space: &mut [u8], given: &mut [u8], image: &mut [u8], page: &mu
     }
 }
 
-// The longest line with its newline, the octets of the longest request, an image, and texts that wait to be written, among them a line.
+// The longest line with its newline, the octets of the longest request, an image.
 fn main() {
     let mut space = [0u8; 262145];
     let mut given = [0u8; 65600];
     let mut image = [0u8; 65600];
-    let mut page = [0u8; 262145];
-    explain_lines(&mut space, &mut given, &mut image, &mut page);
+    explain_lines(&mut space, &mut given, &mut image);
 }

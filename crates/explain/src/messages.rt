@@ -2,7 +2,6 @@
 ghost use Prim.Native.Nat.{_<_};
 use crate::labels;
 use crate::voice;
-use crate::voice::Pen;
 use crate::words;
 use address::PointAddress;
 use label::LabelA;
@@ -85,86 +84,56 @@ fn address_place(address: u8) -> u8
     }
 }
 
-fn typed(page: &mut [u8], pen: Pen, type_id: u8, structure: u8) -> Pen {
-    let said = words::type_id(page, pen, type_id, type_place(type_id));
-    words::structure(page, said, structure / 128, structure % 128)
+pub fn addressed(point: PointAddress, address: u8) {
+    words::addressed(point.0, address, address_place(address));
 }
 
-fn caused(page: &mut [u8], pen: Pen, octet: u8) -> Pen {
-    let cause = octet % 64;
-    let said = words::cause(page, pen, cause, cause_place(cause));
-    words::marks(page, said, octet / 64)
+// The cause's octet has T and P/N above the cause.
+fn header(header: Header) {
+    let type_id = header.type_id;
+    let cause = header.cause % 64;
+    words::type_id(type_id, type_place(type_id));
+    words::structure(header.structure / 128, header.structure % 128);
+    words::cause(cause, cause_place(cause));
+    words::marks(header.cause / 64);
+    addressed(header.point, header.record_address);
 }
 
-pub fn addressed(page: &mut [u8], pen: Pen, point: PointAddress, address: u8) -> Pen {
-    words::addressed(page, pen, point.0, address, address_place(address))
-}
-
-fn header(page: &mut [u8], pen: Pen, header: Header) -> Pen {
-    let what = typed(page, pen, header.type_id, header.structure);
-    let why = caused(page, what, header.cause);
-    addressed(page, why, header.point, header.record_address)
-}
-
-// A label a on a line of its own.
-fn dated(page: &mut [u8], pen: Pen, role: u8, label: LabelA) -> Pen
+// A label on a line of its own.
+fn dated(indent: usize, role: u8, label: LabelA)
     requires { ⌜ role < 6 ⌝ }
 {
-    let said = words::role(page, pen, role);
-    labels::label_a(page, said, label)
+    voice::line(indent);
+    words::role(role);
+    labels::label_a(label);
 }
 
 // From and to; or, from role 2 on, the two switch dates.
-pub fn range(page: &mut [u8], pen: Pen, role: u8, first: LabelA, last: LabelA) -> Pen
+pub fn range(indent: usize, role: u8, first: LabelA, last: LabelA)
     requires { ⌜ role < 5 ⌝ }
 {
-    let said = dated(page, pen, role, first);
-    dated(page, said, role + 1, last)
+    dated(indent, role, first);
+    dated(indent, role + 1, last);
 }
 
-fn readings(page: &mut [u8], pen: Pen, request: Request) -> Pen {
+fn readings(indent: usize, request: Request) {
     let first = request.first;
     let last = request.last;
-    let said = words::objects(page, pen, request.first_object, request.last_object);
-    range(page, said, 0, first, last)
+    voice::line(indent);
+    words::objects(request.first_object, request.last_object);
+    range(indent, 0, first, last);
 }
 
-fn time(page: &mut [u8], pen: Pen, label: LabelB) -> Pen {
-    let said = words::role(page, pen, 4);
-    labels::label(page, said, label, true)
+fn time(indent: usize, label: LabelB) {
+    voice::line(indent);
+    words::role(4);
+    labels::label(label, true);
 }
 
-// A value of 32 bits: from half of them on it is below zero.
-fn value(page: &mut [u8], pen: Pen, object: u8, bits: u32) -> Pen {
-    if bits < 0x8000_0000 {
-        return words::object(page, pen, object, 0, bits as u64);
-    }
-    words::object(page, pen, object, 1, 0x1_0000_0000 - bits as u64)
-}
-
-fn bit(page: &mut [u8], pen: Pen, bit: u8, set: bool) -> Pen
-    requires { ⌜ bit < 8 ⌝ }
-{
-    if set {
-        return words::quality_bit(page, pen, bit);
-    }
-    pen
-}
-
-// The bits that are set, by name, from the highest on.
-fn quality(page: &mut [u8], pen: Pen, quality: u8) -> Pen {
-    if quality == 0 {
-        return pen;
-    }
-    let mut now = words::quality(page, pen);
-    let mut left = quality;
-    let mut at = 0;
-    while at < 8 {
-        now = bit(page, now, at, left / 128 == 1);
-        left = left % 128 * 2;
-        at += 1;
-    }
-    now
+fn password(indent: usize, password: u32) {
+    let low_first = octets::low_octets_4(password);
+    voice::line(indent);
+    words::password(low_first);
 }
 
 fn number_at(m: &[u8], at: usize) -> u32 {
@@ -177,52 +146,76 @@ fn number_at(m: &[u8], at: usize) -> u32 {
     )
 }
 
-fn object(page: &mut [u8], pen: Pen, m: &[u8]) -> Pen {
-    let said = value(page, pen, octets::octet_at(m, 0), number_at(m, 1));
-    quality(page, said, octets::octet_at(m, 5))
+fn identity(indent: usize, m: &[u8]) {
+    voice::line(indent);
+    words::identity(
+        octets::octet_at(m, 6),
+        octets::octet_at(m, 7),
+        number_at(m, 8),
+    );
+}
+
+// A value of 32 bits: from half of them on it is below zero.
+fn value(object: u8, bits: u32) {
+    if bits < 0x8000_0000 {
+        return words::object(object, 0, bits as u64);
+    }
+    words::object(object, 1, 0x1_0000_0000 - bits as u64)
+}
+
+// The bits that are set, by name, from the highest on.
+fn quality(quality: u8) {
+    if quality == 0 {
+        return;
+    }
+    words::quality();
+    let mut left = quality;
+    let mut at = 0;
+    while at < 8 {
+        if left / 128 == 1 {
+            words::quality_bit(at);
+        }
+        left = left % 128 * 2;
+        at += 1;
+    }
+}
+
+// An object's number, its value and its quality.
+fn object(m: &[u8]) {
+    value(octets::octet_at(m, 0), number_at(m, 1));
+    quality(octets::octet_at(m, 5));
 }
 
 // SPQ is the upper seven bits of an octet, SPI its lowest.
-fn event(page: &mut [u8], pen: Pen, m: &[u8]) -> Pen {
+fn event(m: &[u8]) {
     let qualifier = octets::octet_at(m, 1);
-    let said = words::event(
-        page,
-        pen,
-        octets::octet_at(m, 0),
-        qualifier / 2,
-        qualifier % 2,
-    );
-    labels::label(page, said, LabelB::read(octets::part(m, 2, 7)), true)
-}
-
-fn item(page: &mut [u8], pen: Pen, m: &[u8]) -> Pen {
-    if m.len() == OBJECT {
-        return object(page, pen, m);
-    }
-    event(page, pen, m)
+    words::event(octets::octet_at(m, 0), qualifier / 2, qualifier % 2);
+    labels::label(LabelB::read(octets::part(m, 2, 7)), true);
 }
 
 // Objects or events behind the header, by their size.
-fn items(page: &mut [u8], pen: Pen, m: &[u8], many: u8, size: usize) -> Pen {
-    let mut now = pen;
+fn items(indent: usize, m: &[u8], many: u8, size: usize) {
     let mut at = 6;
     let mut left = many;
     while 0 < left {
-        now = item(page, now, octets::part(m, at, size));
+        voice::line(indent);
+        if size == OBJECT {
+            object(octets::part(m, at, size));
+        } else {
+            event(octets::part(m, at, size));
+        }
         at = std::num::wrapping_add_usize(at, size);
         left -= 1;
     }
-    now
 }
 
-fn reading(page: &mut [u8], pen: Pen, m: &[u8], many: u8) -> Pen {
-    let said = items(page, pen, m, many, OBJECT);
+fn reading(indent: usize, m: &[u8], many: u8) {
+    items(indent, m, many, OBJECT);
     dated(
-        page,
-        said,
+        indent,
         5,
         LabelA::read(octets::part(m, 6 + many as usize * OBJECT, 5)),
-    )
+    );
 }
 
 // How many octets a message of a type has, by its N; 0 for a type that is not used here.
@@ -241,66 +234,55 @@ fn size(type_id: u8, many: u8) -> usize {
 }
 
 // What stands behind the header, where the octets are as many as there have to be.
-fn body(page: &mut [u8], pen: Pen, m: &[u8], request: Request) -> Pen {
+fn body(indent: usize, m: &[u8], request: Request) {
     let head = request.header;
     let first = request.first;
     let last = request.last;
     let label = request.time;
     let type_id = head.type_id;
     match type_id {
-        1 => items(page, pen, m, head.structure, EVENT),
-        8 | 11 => reading(page, pen, m, head.structure),
-        71 => words::identity(
-            page,
-            pen,
-            octets::octet_at(m, 6),
-            octets::octet_at(m, 7),
-            number_at(m, 8),
-        ),
-        72 | 181 => time(page, pen, label),
-        102 => range(page, pen, 0, first, last),
-        122 | 123 => readings(page, pen, request),
-        131 | 186 => range(page, pen, 2, first, last),
-        183 => words::password(page, pen, octets::low_octets_4(request.password)),
-        _ => pen,
+        1 => items(indent, m, head.structure, EVENT),
+        8 | 11 => reading(indent, m, head.structure),
+        71 => identity(indent, m),
+        72 | 181 => time(indent, label),
+        102 => range(indent, 0, first, last),
+        122 | 123 => readings(indent, request),
+        131 | 186 => range(indent, 2, first, last),
+        183 => password(indent, request.password),
+        _ => {}
     }
 }
 
-// Octets that are not as many as there have to be.
-fn no_fit(page: &mut [u8], pen: Pen, behind: &[u8]) -> Pen {
-    if behind.len() == 0 {
-        return words::no_fit(page, pen, 1);
-    }
-    let said = words::no_fit(page, pen, 0);
-    voice::pairs(page, said, behind)
+// Octets on a line of their own: 0 as they are, 1 because they do not fit, 2 where there are none that could fit.
+fn shown(indent: usize, why: u8, some: &[u8])
+    requires { ⌜ why < 3 ⌝ }
+{
+    voice::line(indent);
+    words::octets(why);
+    voice::pairs(some);
 }
 
-// Octets as they are.
-pub fn shown(page: &mut [u8], pen: Pen, some: &[u8]) -> Pen {
-    if some.len() == 0 {
-        return pen;
+// Octets that are no message of those that are used here, if there are any.
+pub fn unread(indent: usize, some: &[u8]) {
+    if 0 < some.len() {
+        shown(indent, 0, some);
     }
-    let said = words::octets(page, pen);
-    voice::pairs(page, said, some)
 }
 
-fn inside(page: &mut [u8], pen: Pen, m: &[u8], request: Request) -> Pen {
-    let head = request.header;
-    let size = size(head.type_id, head.structure);
-    let behind = octets::part(m, 6, m.len());
-    if m.len() == size {
-        return body(page, pen, m, request);
-    }
-    if 0 < size {
-        return no_fit(page, pen, behind);
-    }
-    shown(page, pen, behind)
-}
-
-// A message of six octets or more.
-pub fn explain(page: &mut [u8], pen: Pen, m: &[u8]) -> Pen {
+// A message of six octets or more. What stands behind the header is on lines of its own.
+pub fn explain(indent: usize, m: &[u8]) {
     let request = Request::read(m);
     let head = request.header;
-    let said = header(page, pen, head);
-    voice::back(inside(page, voice::deeper(said), m, request))
+    let size = size(head.type_id, head.structure);
+    header(head);
+    if m.len() == size {
+        return body(indent, m, request);
+    }
+    if size == 0 {
+        return unread(indent, octets::part(m, 6, m.len()));
+    }
+    if m.len() == 6 {
+        return shown(indent, 2, b"");
+    }
+    shown(indent, 1, octets::part(m, 6, m.len()))
 }

@@ -346,7 +346,7 @@ fn begun(line: u64, text: &[u8], given: &mut [u8]) -> Request {
     extended(word, nothing_yet(), line, text, to, given)
 }
 
-// The request as it was, with something to be done and nothing carried out.
+// The request as it was, behind a line that is no part of it.
 fn passing(request: Request, step: Step) -> Request {
     let word = request.word;
     let argument = request.argument;
@@ -359,7 +359,7 @@ fn passing(request: Request, step: Step) -> Request {
     }
 }
 
-// A line that belongs to no request, or is too long, or ends the input before the request ended.
+// A request that is dropped, since its line is too long or the input ended before it did.
 fn dropped(request: Request, matter: Matter, line: u64) -> Request {
     let word = request.word;
     let argument = request.argument;
@@ -431,5 +431,14 @@ pub fn place(matter: Matter) -> u8
         Matter::TooLong => 11,
         Matter::Unended => 12,
         Matter::Fine => 13,
+    }
+}
+
+// Whether a line may follow.
+pub fn is_going(request: Request) -> bool {
+    let step = request.step;
+    match step {
+        Step::End => false,
+        _ => true,
     }
 }

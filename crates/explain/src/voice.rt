@@ -1,56 +1,29 @@
-// The voice: phrases with numbers in them, words of a table, octets in hex, each behind the others on a page that goes out when it is full.
+// The voice: phrases with numbers in them, words of a table, octets in hex, each written to standard output at once. What cannot be written is lost:
+// there is no one to tell.
 ghost use Prim.Native.Nat.{_<_};
 ghost use Rattle.explain.specs.Words.{wordsIn};
 use crate::lines::Sought;
 use crate::lines::between;
 use crate::lines::find;
 use crate::lines::one_more;
-use stream::Texts;
 
-// The texts that wait on the page, and how many blanks a new line begins with.
-pub struct Pen {
-    pub texts: Texts,
-    pub indent: u8,
+pub fn say(text: &[u8]) {
+    io::write_all(1, text);
 }
 
-pub fn say(page: &mut [u8], pen: Pen, text: &[u8]) -> Pen {
-    let texts = pen.texts;
-    Pen {
-        texts: stream::tell(page, texts, text, true),
-        indent: pen.indent,
-    }
-}
-
-// Lines that follow are indented by two blanks more; and as before.
-pub fn deeper(pen: Pen) -> Pen {
-    let texts = pen.texts;
-    Pen {
-        texts,
-        indent: std::num::wrapping_add_u8(pen.indent, 2),
-    }
-}
-
-pub fn back(pen: Pen) -> Pen {
-    let texts = pen.texts;
-    Pen {
-        texts,
-        indent: std::num::wrapping_sub_u8(pen.indent, 2),
-    }
-}
-
-// A new line. None is indented by more than eight blanks.
-fn line(page: &mut [u8], pen: Pen) -> Pen {
-    let begun = octets::part(b"\n        ", 0, 1 + pen.indent as usize);
-    say(page, pen, begun)
+// A new line, which begins with so many blanks, eight at most.
+pub fn line(indent: usize) {
+    let blanks = octets::part(b"        ", 0, indent);
+    say(b"\n");
+    say(blanks);
 }
 
 // A number with so many figures at least, of which there may be three.
-fn number(page: &mut [u8], pen: Pen, n: u64, least: usize) -> Pen {
+fn number(n: u64, least: usize) {
     let mut figures = [0u8; 20];
     let count = io::decimal(n, &mut figures);
-    let zeros = octets::part(octets::part(b"000", 0, least), count, 3);
-    let filled = say(page, pen, zeros);
-    say(page, filled, &figures[..count])
+    say(octets::part(octets::part(b"000", 0, least), count, 3));
+    say(&figures[..count]);
 }
 
 fn figure(n: u8) -> u8 {
@@ -63,49 +36,73 @@ fn figure(n: u8) -> u8 {
     63
 }
 
-fn pair(page: &mut [u8], pen: Pen, octet: u8) -> Pen {
-    say(page, pen, &[figure(octet / 16), figure(octet % 16)])
+fn pair(octet: u8) {
+    say(&[figure(octet / 16), figure(octet % 16)]);
 }
 
 // Octets in hex, each behind a blank.
-pub fn pairs(page: &mut [u8], pen: Pen, some: &[u8]) -> Pen {
-    let mut now = pen;
+pub fn pairs(some: &[u8]) {
     let mut i = 0;
     while i < some.len() {
-        let apart = say(page, now, b" ");
-        now = pair(page, apart, some[i]);
+        say(b" ");
+        pair(some[i]);
         i += 1;
     }
-    now
 }
 
-// An octet of a phrase: `%` stands for a number, `&` and `$` for one with two and three figures at least, `~` for an octet in hex, `*` for a
-// word; a new line is indented; all else stands for itself.
-fn mark(page: &mut [u8], pen: Pen, c: u8, n: u64, word: &[u8]) -> Pen {
+// What an octet of a phrase stands for: `%` for a number, `&` and `$` for one with two and three figures at least, `~` for an octet in hex, `*` for a
+// word; all else for itself.
+enum Mark {
+    Figures(usize),
+    Hex,
+    Word,
+    Itself,
+}
+
+fn mark_of(c: u8) -> Mark {
     match c {
-        b'%' => number(page, pen, n, 1),
-        b'&' => number(page, pen, n, 2),
-        b'$' => number(page, pen, n, 3),
-        b'~' => pair(page, pen, (n % 256) as u8),
-        b'*' => say(page, pen, word),
-        b'\n' => line(page, pen),
-        _ => say(page, pen, &[c]),
+        b'%' => Mark::Figures(1),
+        b'&' => Mark::Figures(2),
+        b'$' => Mark::Figures(3),
+        b'~' => Mark::Hex,
+        b'*' => Mark::Word,
+        _ => Mark::Itself,
     }
 }
 
-fn is_number(c: u8) -> bool {
-    match c {
-        b'%' | b'&' | b'$' | b'~' => true,
-        _ => false,
+// Nothing is said where the octet stands for itself: it is said with those around it.
+fn marked(mark: Mark, n: u64, word: &[u8]) {
+    match mark {
+        Mark::Figures(least) => number(n, least),
+        Mark::Hex => pair((n % 256) as u8),
+        Mark::Word => say(word),
+        Mark::Itself => {}
     }
 }
 
-// How many numbers are used up behind an octet of a phrase.
-fn used_up(used: usize, c: u8) -> usize {
-    if is_number(c) {
-        return one_more(used);
+// How many numbers are used up behind a mark.
+fn used_up(mark: Mark, used: usize) -> usize {
+    match mark {
+        Mark::Figures(_) => one_more(used),
+        Mark::Hex => one_more(used),
+        _ => used,
     }
-    used
+}
+
+// From where on octets that stand for themselves are still to be said, behind the octet at a place.
+fn unsaid_from(mark: Mark, from: usize, at: usize) -> usize {
+    match mark {
+        Mark::Itself => from,
+        _ => one_more(at),
+    }
+}
+
+// The octets before a mark.
+fn before(mark: Mark, unsaid: &[u8]) {
+    match mark {
+        Mark::Itself => {}
+        _ => say(unsaid),
+    }
 }
 
 // A phrase has six numbers at most.
@@ -117,20 +114,23 @@ fn value_at(values: [u64; 6], at: usize) -> u64 {
 }
 
 // A phrase with its numbers and its word.
-fn sentence(page: &mut [u8], pen: Pen, phrase: &[u8], values: [u64; 6], word: &[u8]) -> Pen {
-    let mut now = pen;
+fn sentence(phrase: &[u8], values: [u64; 6], word: &[u8]) {
     let mut used = 0;
+    let mut from = 0;
     let mut i = 0;
     while i < phrase.len() {
-        now = mark(page, now, phrase[i], value_at(values, used), word);
-        used = used_up(used, phrase[i]);
+        let mark = mark_of(phrase[i]);
+        before(mark, between(phrase, from, i));
+        marked(mark, value_at(values, used), word);
+        used = used_up(mark, used);
+        from = unsaid_from(mark, from, i);
         i += 1;
     }
-    now
+    say(between(phrase, from, i));
 }
 
-pub fn phrase(page: &mut [u8], pen: Pen, phrase: &[u8], values: [u64; 6]) -> Pen {
-    sentence(page, pen, phrase, values, b"")
+pub fn phrase(phrase: &[u8], values: [u64; 6]) {
+    sentence(phrase, values, b"");
 }
 
 // Where the word that begins at a place ends.
@@ -151,29 +151,22 @@ pub fn nth(table: &[u8], n: u8) -> &[u8]
     between(table, from, word_end(table, from))
 }
 
-pub fn word(page: &mut [u8], pen: Pen, table: &[u8], n: u8) -> Pen
+pub fn word(table: &[u8], n: u8)
     requires { ⌜ n < wordsIn (now table) ⌝ }
 {
-    sentence(page, pen, nth(table, n), [0; 6], b"")
+    say(nth(table, n));
 }
 
 // A phrase that stands in a table.
-pub fn phrase_of(page: &mut [u8], pen: Pen, table: &[u8], n: u8, values: [u64; 6]) -> Pen
+pub fn phrase_of(table: &[u8], n: u8, values: [u64; 6])
     requires { ⌜ n < wordsIn (now table) ⌝ }
 {
-    sentence(page, pen, nth(table, n), values, b"")
+    sentence(nth(table, n), values, b"");
 }
 
 // A phrase in which a word of a table stands.
-pub fn naming(
-    page: &mut [u8],
-    pen: Pen,
-    phrase: &[u8],
-    values: [u64; 6],
-    table: &[u8],
-    n: u8,
-) -> Pen
+pub fn naming(phrase: &[u8], values: [u64; 6], table: &[u8], n: u8)
     requires { ⌜ n < wordsIn (now table) ⌝ }
 {
-    sentence(page, pen, phrase, values, nth(table, n))
+    sentence(phrase, values, nth(table, n));
 }

@@ -3,7 +3,6 @@
 ghost use Prim.Native.Nat.{_<_};
 use crate::lines;
 use crate::voice;
-use crate::voice::Pen;
 use crate::voice::naming;
 use crate::voice::phrase;
 use crate::voice::phrase_of;
@@ -21,49 +20,35 @@ pub fn is_request(text: &[u8], n: u8) -> bool
     lines::is(text, voice::nth(&REQUESTS, n))
 }
 
-pub fn request(page: &mut [u8], pen: Pen, n: u8) -> Pen
+pub fn request(n: u8)
     requires { ⌜ n < 15 ⌝ }
 {
-    naming(page, pen, b" *", [0; 6], &REQUESTS, n)
+    naming(b" *", [0; 6], &REQUESTS, n)
 }
 
 // Where it is: a line, or a place in it.
-pub fn line(page: &mut [u8], pen: Pen, line: u64) -> Pen {
-    phrase(page, pen, b"line %: ", [line, 0, 0, 0, 0, 0])
+pub fn line(line: u64) {
+    phrase(b"line %: ", [line, 0, 0, 0, 0, 0])
 }
 
-pub fn column(page: &mut [u8], pen: Pen, line: u64, column: u64) -> Pen {
-    phrase(page, pen, b"line %, column %: ", [line, column, 0, 0, 0, 0])
+pub fn column(line: u64, column: u64) {
+    phrase(b"line %, column %: ", [line, column, 0, 0, 0, 0])
 }
 
-pub fn expected(page: &mut [u8], pen: Pen, what: u8) -> Pen
+pub fn expected(what: u8)
     requires { ⌜ what < 13 ⌝ }
 {
     word(
-        page,
-        pen,
         b"one of these words is expected:;a pair of hex figures is expected;the second figure of a pair is expected;65600 octets at most are expected;a number from 0 to 65535 is expected;nothing is expected behind this word;5 or 7 octets are expected;10 or 14 octets are expected;7 octets are expected;6 to 252 octets are expected;1 to 252 octets are expected;a line of 262144 octets at most is expected;the request is expected to go on;",
         what,
     )
 }
 
-// ---- lines ----
-
-pub fn new_line(page: &mut [u8], pen: Pen) -> Pen {
-    phrase(page, pen, b"\n", [0; 6])
-}
-
-pub fn octets(page: &mut [u8], pen: Pen) -> Pen {
-    phrase(page, pen, b"\noctets", [0; 6])
-}
-
 // ---- labels ----
 
 // The date and the time.
-pub fn when(page: &mut [u8], pen: Pen, year: u8, month: u8, day: u8, hour: u8, minute: u8) -> Pen {
+pub fn when(year: u8, month: u8, day: u8, hour: u8, minute: u8) {
     phrase(
-        page,
-        pen,
         b"%-&-& &:&",
         [
             2000 + year as u64,
@@ -76,32 +61,25 @@ pub fn when(page: &mut [u8], pen: Pen, year: u8, month: u8, day: u8, hour: u8, m
     )
 }
 
-pub fn seconds(page: &mut [u8], pen: Pen, second: u8, millisecond: u16) -> Pen {
-    phrase(
-        page,
-        pen,
-        b":&.$",
-        [second as u64, millisecond as u64, 0, 0, 0, 0],
-    )
+pub fn seconds(second: u8, millisecond: u16) {
+    phrase(b":&.$", [second as u64, millisecond as u64, 0, 0, 0, 0])
 }
 
 // 0 winter, 1 summer.
-pub fn season(page: &mut [u8], pen: Pen, season: u8) -> Pen
+pub fn season(season: u8)
     requires { ⌜ season < 2 ⌝ }
 {
-    word(page, pen, b" winter time; summer time;", season)
+    word(b" winter time; summer time;", season)
 }
 
-pub fn valid(page: &mut [u8], pen: Pen, minute: u64) -> Pen {
-    phrase(page, pen, b", valid, minute %", [minute, 0, 0, 0, 0, 0])
+pub fn valid(minute: u64) {
+    phrase(b", valid, minute %", [minute, 0, 0, 0, 0, 0])
 }
 
-pub fn not_valid(page: &mut [u8], pen: Pen, why: u8) -> Pen
+pub fn not_valid(why: u8)
     requires { ⌜ why < 12 ⌝ }
 {
     naming(
-        page,
-        pen,
         b", not valid: *",
         [0; 6],
         b"IV is set;TIS is set;a reserved bit of the hour is set;ETI or PTI is set;the reserved bit of the year is set;the year is over 99;there is no such month;the month has no such day;the hour is over 23;the minute is over 59;the second is over 59;the millisecond is over 999;",
@@ -109,33 +87,29 @@ pub fn not_valid(page: &mut [u8], pen: Pen, why: u8) -> Pen
     )
 }
 
-pub fn order(page: &mut [u8], pen: Pen, order: u8) -> Pen
+pub fn order(order: u8)
     requires { ⌜ order < 4 ⌝ }
 {
     word(
-        page,
-        pen,
         b"the first is before the second;the first is after the second;both are the same instant;neither comes before the other;",
         order,
     )
 }
 
 // One of two labels.
-pub fn which(page: &mut [u8], pen: Pen, which: u8) -> Pen
+pub fn which(which: u8)
     requires { ⌜ which < 2 ⌝ }
 {
-    word(page, pen, b"\nthe first;\nthe second;", which)
+    word(b"the first;the second;", which)
 }
 
 // ---- frames ----
 
 // The number that a gap answers.
-pub fn number(page: &mut [u8], pen: Pen, number: u8) -> Pen
+pub fn number(number: u8)
     requires { ⌜ number < 10 ⌝ }
 {
     naming(
-        page,
-        pen,
         b"number %: *",
         [number as u64, 0, 0, 0, 0, 0],
         b"frame answered;empty run;run over 261 octets;not the form of a frame;checksum wrong;other link address;control field not offered;user data or collection before the first reset;image not sound;reply buffer under 261 octets;",
@@ -144,58 +118,47 @@ pub fn number(page: &mut [u8], pen: Pen, number: u8) -> Pen
 }
 
 // What the centre asks, with the FCB where it counts.
-pub fn asks(page: &mut [u8], pen: Pen, what: u8, fcb: u8) -> Pen
+pub fn asks(what: u8, fcb: u8)
     requires { ⌜ what < 4 ⌝ }
 {
     phrase_of(
-        page,
-        pen,
         b"reset;user data, FCB %;status;collection, FCB %;",
         what,
         [fcb as u64, 0, 0, 0, 0, 0],
     )
 }
 
-pub fn is_reply(page: &mut [u8], pen: Pen) -> Pen {
-    phrase(page, pen, b"reply ", [0; 6])
+pub fn is_reply() {
+    phrase(b"reply ", [0; 6])
 }
 
-pub fn replies(page: &mut [u8], pen: Pen, what: u8) -> Pen
+pub fn replies(what: u8)
     requires { ⌜ what < 5 ⌝ }
 {
-    word(
-        page,
-        pen,
-        b"ACK;NACK;data;nothing to give;status of the link;",
-        what,
-    )
+    word(b"ACK;NACK;data;nothing to give;status of the link;", what)
 }
 
-pub fn no_reply(page: &mut [u8], pen: Pen, control: u8) -> Pen {
+pub fn no_reply(control: u8) {
     phrase(
-        page,
-        pen,
         b"a reply's control field that is none: ~",
         [control as u64, 0, 0, 0, 0, 0],
     )
 }
 
-pub fn link_address(page: &mut [u8], pen: Pen, link: u16) -> Pen {
-    phrase(page, pen, b", link address %", [link as u64, 0, 0, 0, 0, 0])
+pub fn link_address(link: u16) {
+    phrase(b", link address %", [link as u64, 0, 0, 0, 0, 0])
 }
 
-pub fn user_octets(page: &mut [u8], pen: Pen, many: u64) -> Pen {
-    phrase(page, pen, b", user octets %", [many, 0, 0, 0, 0, 0])
+pub fn user_octets(many: u64) {
+    phrase(b", user octets %", [many, 0, 0, 0, 0, 0])
 }
 
 // ---- messages ----
 
-pub fn type_id(page: &mut [u8], pen: Pen, type_id: u8, place: u8) -> Pen
+pub fn type_id(type_id: u8, place: u8)
     requires { ⌜ place < 22 ⌝ }
 {
     naming(
-        page,
-        pen,
         b"type % (*)",
         [type_id as u64, 0, 0, 0, 0, 0],
         b"events;totals;periods;identity;clock;read identity;read events;read clock;read totals;read periods;switch dates;set clock;open session;read switch dates;set switch dates;close session;signature, not used here;read signature, not used here;read parameters, not used here;set parameters, not used here;free for the maker;not used here;",
@@ -204,24 +167,16 @@ pub fn type_id(page: &mut [u8], pen: Pen, type_id: u8, place: u8) -> Pen
 }
 
 // SQ is the structure octet's highest bit, N the others.
-pub fn structure(page: &mut [u8], pen: Pen, sq: u8, n: u8) -> Pen
+pub fn structure(sq: u8, n: u8)
     requires { ⌜ sq < 2 ⌝ }
 {
-    phrase_of(
-        page,
-        pen,
-        b", N %;, SQ 1, N %;",
-        sq,
-        [n as u64, 0, 0, 0, 0, 0],
-    )
+    phrase_of(b", N %;, SQ 1, N %;", sq, [n as u64, 0, 0, 0, 0, 0])
 }
 
-pub fn cause(page: &mut [u8], pen: Pen, cause: u8, place: u8) -> Pen
+pub fn cause(cause: u8, place: u8)
     requires { ⌜ place < 15 ⌝ }
 {
     naming(
-        page,
-        pen,
         b", cause % (*)",
         [cause as u64, 0, 0, 0, 0, 0],
         b"initialised;requested;activation;activation confirmed;deactivation;deactivation confirmed;activation ended;data not there;type of message not there;record address not known;point not known;object not there;period not there;free for the maker;not used here;",
@@ -230,23 +185,19 @@ pub fn cause(page: &mut [u8], pen: Pen, cause: u8, place: u8) -> Pen
 }
 
 // The two highest bits of the cause's octet: T, then P/N.
-pub fn marks(page: &mut [u8], pen: Pen, marks: u8) -> Pen
+pub fn marks(marks: u8)
     requires { ⌜ marks < 4 ⌝ }
 {
     word(
-        page,
-        pen,
         b", ;, P/N 1 (negative), ;, T 1, ;, T 1, P/N 1 (negative), ;",
         marks,
     )
 }
 
-pub fn addressed(page: &mut [u8], pen: Pen, point: u16, address: u8, place: u8) -> Pen
+pub fn addressed(point: u16, address: u8, place: u8)
     requires { ⌜ place < 11 ⌝ }
 {
     naming(
-        page,
-        pen,
         b"point %, record address %*",
         [point as u64, address as u64, 0, 0, 0, 0],
         b"; (periods); (totals); (start and low voltage); (clock); (parameters); (internal errors); (tampering); (communication); (free for the maker); (not used here);",
@@ -254,45 +205,34 @@ pub fn addressed(page: &mut [u8], pen: Pen, point: u16, address: u8, place: u8) 
     )
 }
 
-// 0 the octets follow, 1 there are none.
-pub fn no_fit(page: &mut [u8], pen: Pen, none: u8) -> Pen
-    requires { ⌜ none < 2 ⌝ }
+// 0 as they are, 1 because they do not fit, 2 where there are none that could fit.
+pub fn octets(why: u8)
+    requires { ⌜ why < 3 ⌝ }
 {
     word(
-        page,
-        pen,
-        b"\nthe octets do not fit the type and N:;\nthe octets do not fit the type and N: none;",
-        none,
+        b"octets;the octets do not fit the type and N:;the octets do not fit the type and N: none;",
+        why,
     )
 }
 
-pub fn objects(page: &mut [u8], pen: Pen, first: u8, last: u8) -> Pen {
-    phrase(
-        page,
-        pen,
-        b"\nobjects % to %",
-        [first as u64, last as u64, 0, 0, 0, 0],
-    )
+pub fn objects(first: u8, last: u8) {
+    phrase(b"objects % to %", [first as u64, last as u64, 0, 0, 0, 0])
 }
 
 // What a label is, on a line of its own.
-pub fn role(page: &mut [u8], pen: Pen, role: u8) -> Pen
+pub fn role(role: u8)
     requires { ⌜ role < 6 ⌝ }
 {
     word(
-        page,
-        pen,
-        b"\nfrom ;\nto ;\nfirst switch date ;\nsecond switch date ;\ntime ;\nlabel ;",
+        b"from ;to ;first switch date ;second switch date ;time ;label ;",
         role,
     )
 }
 
 // Four octets, high octet first.
-pub fn password(page: &mut [u8], pen: Pen, octets: [u8; 4]) -> Pen {
+pub fn password(octets: [u8; 4]) {
     phrase(
-        page,
-        pen,
-        b"\npassword ~~~~",
+        b"password ~~~~",
         [
             octets[3] as u64,
             octets[2] as u64,
@@ -305,43 +245,37 @@ pub fn password(page: &mut [u8], pen: Pen, octets: [u8; 4]) -> Pen {
 }
 
 // 0 not below zero, 1 below.
-pub fn object(page: &mut [u8], pen: Pen, object: u8, below: u8, size: u64) -> Pen
+pub fn object(object: u8, below: u8, size: u64)
     requires { ⌜ below < 2 ⌝ }
 {
     phrase_of(
-        page,
-        pen,
-        b"\nobject %: %;\nobject %: -%;",
+        b"object %: %;object %: -%;",
         below,
         [object as u64, size, 0, 0, 0, 0],
     )
 }
 
-pub fn quality(page: &mut [u8], pen: Pen) -> Pen {
-    phrase(page, pen, b", quality", [0; 6])
+pub fn quality() {
+    phrase(b", quality", [0; 6])
 }
 
 // A bit of the quality octet, from the highest on.
-pub fn quality_bit(page: &mut [u8], pen: Pen, bit: u8) -> Pen
+pub fn quality_bit(bit: u8)
     requires { ⌜ bit < 8 ⌝ }
 {
-    word(page, pen, b" IV; CA; CY; VH; MP; INT; AL; bit 0;", bit)
+    word(b" IV; CA; CY; VH; MP; INT; AL; bit 0;", bit)
 }
 
-pub fn event(page: &mut [u8], pen: Pen, spa: u8, spq: u8, spi: u8) -> Pen {
+pub fn event(spa: u8, spq: u8, spi: u8) {
     phrase(
-        page,
-        pen,
-        b"\nSPA %, SPQ %, SPI %, ",
+        b"SPA %, SPQ %, SPI %, ",
         [spa as u64, spq as u64, spi as u64, 0, 0, 0],
     )
 }
 
-pub fn identity(page: &mut [u8], pen: Pen, date: u8, maker: u8, product: u32) -> Pen {
+pub fn identity(date: u8, maker: u8, product: u32) {
     phrase(
-        page,
-        pen,
-        b"\ndate %, maker %, product %",
+        b"date %, maker %, product %",
         [date as u64, maker as u64, product as u64, 0, 0, 0],
     )
 }
@@ -349,133 +283,103 @@ pub fn identity(page: &mut [u8], pen: Pen, date: u8, maker: u8, product: u32) ->
 // ---- images ----
 
 // 0 not sound, 1 sound.
-pub fn image(page: &mut [u8], pen: Pen, many: u64, sound: u8) -> Pen
+pub fn image(many: u64, sound: u8)
     requires { ⌜ sound < 2 ⌝ }
 {
     phrase_of(
-        page,
-        pen,
         b"image of % octets, not sound: ;image of % octets, sound;",
         sound,
         [many, 0, 0, 0, 0, 0],
     )
 }
 
-pub fn record(page: &mut [u8], pen: Pen, number: u64, place: u64) -> Pen {
-    phrase(
-        page,
-        pen,
-        b"record % at octet %: ",
-        [number, place, 0, 0, 0, 0],
-    )
+pub fn record(number: u64, place: u64) {
+    phrase(b"record % at octet %: ", [number, place, 0, 0, 0, 0])
 }
 
-pub fn unsound(page: &mut [u8], pen: Pen, why: u8) -> Pen
+pub fn unsound(why: u8)
     requires { ⌜ why < 19 ⌝ }
 {
     word(
-        page,
-        pen,
         b"over 65535 octets;it does not begin with version 1;the first record is not of kind 1;the point is 0;the first switch date is not valid;the second switch date is not valid;the record address is neither 11 nor 21;the label is not valid;the record address is none of events;the event's label is not valid;out of order;a ninth point;no point stands before it;the point is not among the points;no such kind;the length is not that of its kind;cut;there is no record;there is no point;",
         why,
     )
 }
 
-pub fn head(page: &mut [u8], pen: Pen, link: u16, date: u8, maker: u8, product: u32) -> Pen {
+pub fn head(link: u16, date: u8, maker: u8, product: u32) {
     phrase(
-        page,
-        pen,
-        b"\nlink address %, date %, maker %, product %",
+        b"link address %, date %, maker %, product %",
         [link as u64, date as u64, maker as u64, product as u64, 0, 0],
     )
 }
 
-pub fn point(page: &mut [u8], pen: Pen, point: u16) -> Pen {
-    phrase(page, pen, b"\npoint %", [point as u64, 0, 0, 0, 0, 0])
+pub fn point(point: u16) {
+    phrase(b"point %", [point as u64, 0, 0, 0, 0, 0])
 }
 
 // 0 readings, 1 events.
-pub fn many(page: &mut [u8], pen: Pen, many: u64, kind: u8) -> Pen
+pub fn many(many: u64, kind: u8)
     requires { ⌜ kind < 2 ⌝ }
 {
-    phrase_of(
-        page,
-        pen,
-        b": readings %;: events %;",
-        kind,
-        [many, 0, 0, 0, 0, 0],
-    )
+    phrase_of(b": readings %;: events %;", kind, [many, 0, 0, 0, 0, 0])
 }
 
 // 0 the first of a group, 1 the last.
-pub fn end(page: &mut [u8], pen: Pen, end: u8) -> Pen
+pub fn end(end: u8)
     requires { ⌜ end < 2 ⌝ }
 {
-    word(page, pen, b", first ;, last ;", end)
+    word(b", first ;, last ;", end)
 }
 
-pub fn missing(page: &mut [u8], pen: Pen, what: u8) -> Pen
-    requires { ⌜ what < 5 ⌝ }
+pub fn missing(what: u8)
+    requires { ⌜ what < 4 ⌝ }
 {
     word(
-        page,
-        pen,
-        b";\nno switch dates;\nno readings;\nno events;\nno readings, no events;",
+        b"no switch dates;no readings;no events;no readings, no events;",
         what,
     )
 }
 
 // ---- the card and what is lent to it ----
 
-pub fn buffer(page: &mut [u8], pen: Pen, many: u64) -> Pen {
-    phrase(
-        page,
-        pen,
-        b"reply buffer of % octets",
-        [many, 0, 0, 0, 0, 0],
-    )
+pub fn buffer(many: u64) {
+    phrase(b"reply buffer of % octets", [many, 0, 0, 0, 0, 0])
 }
 
-pub fn octets_in(page: &mut [u8], pen: Pen, many: u64) -> Pen {
-    phrase(page, pen, b"octets in: %", [many, 0, 0, 0, 0, 0])
+pub fn octets_in(many: u64) {
+    phrase(b"octets in: %", [many, 0, 0, 0, 0, 0])
 }
 
 // 0 none, 1 the clock, 2 the dates.
-pub fn ordered(page: &mut [u8], pen: Pen, what: u8) -> Pen
+pub fn ordered(what: u8)
     requires { ⌜ what < 3 ⌝ }
 {
     word(
-        page,
-        pen,
         b", no order;, order set clock;, order set switch dates;",
         what,
     )
 }
 
-pub fn rule(page: &mut [u8], pen: Pen, rule: u8) -> Pen
+pub fn rule(rule: u8)
     requires { ⌜ rule < 19 ⌝ }
 {
     naming(
-        page,
-        pen,
-        b"\nrule: *",
+        b"rule: *",
         [0; 6],
         b"T or P/N set;type not offered;no session;point not in the image;session of another point;structure octet, octets or cause not as listed;record address not as listed;first object not 1 or last not 6;a label of readings not valid;first label of readings after the last;no reading chosen;a label of events not valid;first label of events after the last;no event chosen;clock not valid;no switch dates in the image;a label to set not valid;wrong password;accepted;",
         rule,
     )
 }
 
-pub fn reply(page: &mut [u8], pen: Pen) -> Pen {
-    phrase(page, pen, b"\nreply", [0; 6])
+pub fn reply() {
+    phrase(b"reply", [0; 6])
 }
 
 // 0 not reset, 1 reset.
-pub fn link(page: &mut [u8], pen: Pen, reset: u8, fcb: u8) -> Pen
+pub fn link(reset: u8, fcb: u8)
     requires { ⌜ reset < 2 ⌝ }
 {
     phrase_of(
-        page,
-        pen,
         b"not reset, last FCB %;reset, last FCB %;",
         reset,
         [fcb as u64, 0, 0, 0, 0, 0],
@@ -483,35 +387,26 @@ pub fn link(page: &mut [u8], pen: Pen, reset: u8, fcb: u8) -> Pen
 }
 
 // 0 of a point, 1 none.
-pub fn session(page: &mut [u8], pen: Pen, closed: u8, point: u16) -> Pen
+pub fn session(closed: u8, point: u16)
     requires { ⌜ closed < 2 ⌝ }
 {
     phrase_of(
-        page,
-        pen,
         b", session of point %;, no session;",
         closed,
         [point as u64, 0, 0, 0, 0, 0],
     )
 }
 
-pub fn waits(page: &mut [u8], pen: Pen, what: u8, number: u64) -> Pen
+pub fn waits(what: u8, number: u64)
     requires { ⌜ what < 8 ⌝ }
 {
     phrase_of(
-        page,
-        pen,
         b", nothing waiting;, waiting: mirror with cause %;, waiting: mirror with cause 7, P/N 1;, waiting: mirror with cause 7, then data;, waiting: data or mirror with cause 10, given so far %;, waiting: type 71;, waiting: type 72;, waiting: type 131;",
         what,
         [number, 0, 0, 0, 0, 0],
     )
 }
 
-pub fn damaged(page: &mut [u8], pen: Pen, damaged: u16) -> Pen {
-    phrase(
-        page,
-        pen,
-        b", damaged runs %",
-        [damaged as u64, 0, 0, 0, 0, 0],
-    )
+pub fn damaged(damaged: u16) {
+    phrase(b", damaged runs %", [damaged as u64, 0, 0, 0, 0, 0])
 }

@@ -8,10 +8,10 @@ use Rattle.explain.proofs.explain_lines.Statement.{statement}
 use Rattle.explain.proofs.explain_lines.Tie as tie
 
 abbrev Inv-loop : tie.InvT-loop
-Inv-loop space₀ given₀ image₀ page₀ desk₀ number₀ space given image page desk number = (length space ≡ length space₀) × (length given ≡ length given₀) × (length image ≡ length image₀) × (length page ≡ length page₀)
+Inv-loop space₀ given₀ image₀ desk₀ number₀ space given image desk number = (length space ≡ length space₀) × (length given ≡ length given₀) × (length image ≡ length image₀)
 
 abbrev μ-loop : tie.MeasureT-loop
-μ-loop space₀ given₀ image₀ page₀ desk₀ number₀ space given image page desk number = 18446744073709551615 - number
+μ-loop space₀ given₀ image₀ desk₀ number₀ space given image desk number = 18446744073709551615 - number
 
 start-requires : tie.Need-start-requires Inv-loop μ-loop
 start-requires c κs = search needs
@@ -40,23 +40,17 @@ same-length-2 c = search needs
 same-length-3 : tie.Need-same-length-3 Inv-loop μ-loop
 same-length-3 c = search needs
 
-same-length-4 : tie.Need-same-length-4 Inv-loop μ-loop
-same-length-4 c = search needs
-
 returns : tie.Need-returns Inv-loop μ-loop
 returns c = search needs
+
+same-length-4 : tie.Need-same-length-4 Inv-loop μ-loop
+same-length-4 c = search needs
 
 same-length-5 : tie.Need-same-length-5 Inv-loop μ-loop
 same-length-5 c = search needs
 
 same-length-6 : tie.Need-same-length-6 Inv-loop μ-loop
 same-length-6 c = search needs
-
-same-length-7 : tie.Need-same-length-7 Inv-loop μ-loop
-same-length-7 c = search needs
-
-same-length-8 : tie.Need-same-length-8 Inv-loop μ-loop
-same-length-8 c = search needs
 
 returns-2 : tie.Need-returns-2 Inv-loop μ-loop
 returns-2 c = search needs
@@ -76,10 +70,8 @@ explain-lines-spec =
     same-length
     same-length-2
     same-length-3
-    same-length-4
     returns
+    same-length-4
     same-length-5
     same-length-6
-    same-length-7
-    same-length-8
     returns-2)

@@ -1,5 +1,5 @@
 -- `records` goes from record to record.
--- Fewer turns are left each time; the page keeps its length. Assumes nothing.
+-- Fewer turns are left each time. Assumes nothing.
 use Prim.Native.Nat.{_-_}
 use mathlib.Core.Path.{_≡_}
 use borrow.Author.Needs.{needs}
@@ -8,10 +8,10 @@ use Rattle.explain.proofs.images.records.Statement.{statement}
 use Rattle.explain.proofs.images.records.Tie as tie
 
 abbrev Inv-loop : tie.InvT-loop
-Inv-loop page₀ image now₀ at₀ group₀ i₀ page now at group i = length page ≡ length page₀
+Inv-loop image at₀ group₀ i₀ at group i = Unit {0}
 
 abbrev μ-loop : tie.MeasureT-loop
-μ-loop page₀ image now₀ at₀ group₀ i₀ page now at group i = 65535 - i
+μ-loop image at₀ group₀ i₀ at group i = 65535 - i
 
 key-at-requires : tie.Need-key-at-requires Inv-loop μ-loop
 key-at-requires c κs = search needs
@@ -34,9 +34,6 @@ between-requires c κs = search needs
 grouped-requires : tie.Need-grouped-requires Inv-loop μ-loop
 grouped-requires c κs = search needs
 
-same-length : tie.Need-same-length Inv-loop μ-loop
-same-length c = search needs
-
 returns : tie.Need-returns Inv-loop μ-loop
 returns c = search needs
 
@@ -48,9 +45,6 @@ loop-less c = search needs
 
 loop-again : tie.Need-loop-again Inv-loop μ-loop
 loop-again c = search needs
-
-same-length-2 : tie.Need-same-length-2 Inv-loop μ-loop
-same-length-2 c = search needs
 
 returns-2 : tie.Need-returns-2 Inv-loop μ-loop
 returns-2 c = search needs
@@ -68,10 +62,8 @@ records-spec =
     key-at-requires-2
     between-requires
     grouped-requires
-    same-length
     returns
     add-i
     loop-less
     loop-again
-    same-length-2
     returns-2)

@@ -1,5 +1,5 @@
 -- `quality` looks at bit after bit.
--- Fewer are left each time; the page keeps its length. Assumes nothing.
+-- Fewer are left each time. Assumes nothing.
 use Prim.Native.Nat.{_-_}
 use mathlib.Core.Path.{_≡_}
 use borrow.Author.Needs.{needs}
@@ -8,10 +8,10 @@ use Rattle.explain.proofs.messages.quality.Statement.{statement}
 use Rattle.explain.proofs.messages.quality.Tie as tie
 
 abbrev Inv-loop : tie.InvT-loop
-Inv-loop page₀ quality now₀ left₀ at₀ page now left at = length page ≡ length page₀
+Inv-loop quality left₀ at₀ left at = Unit {0}
 
 abbrev μ-loop : tie.MeasureT-loop
-μ-loop page₀ quality now₀ left₀ at₀ page now left at = 8 - at
+μ-loop quality left₀ at₀ left at = 8 - at
 
 returns : tie.Need-returns Inv-loop μ-loop
 returns c = search needs
@@ -22,8 +22,8 @@ quality-requires c κs = search needs
 loop-holds : tie.Need-loop-holds Inv-loop μ-loop
 loop-holds c = search needs
 
-bit-requires : tie.Need-bit-requires Inv-loop μ-loop
-bit-requires c κs = search needs
+quality-bit-requires : tie.Need-quality-bit-requires Inv-loop μ-loop
+quality-bit-requires c κs = search needs
 
 mul-left : tie.Need-mul-left Inv-loop μ-loop
 mul-left c = search needs
@@ -37,9 +37,6 @@ loop-less c = search needs
 loop-again : tie.Need-loop-again Inv-loop μ-loop
 loop-again c = search needs
 
-same-length : tie.Need-same-length Inv-loop μ-loop
-same-length c = search needs
-
 returns-2 : tie.Need-returns-2 Inv-loop μ-loop
 returns-2 c = search needs
 
@@ -52,10 +49,9 @@ quality-spec =
     returns
     quality-requires
     loop-holds
-    bit-requires
+    quality-bit-requires
     mul-left
     add-at
     loop-less
     loop-again
-    same-length
     returns-2)

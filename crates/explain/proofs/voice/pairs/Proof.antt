@@ -1,5 +1,5 @@
 -- `pairs` writes pair after pair.
--- What is left gets shorter; the page keeps its length. Assumes nothing.
+-- What is left gets shorter. Assumes nothing.
 use Prim.Native.Nat.{_-_}
 use mathlib.Core.Path.{_≡_}
 use borrow.Author.Needs.{needs}
@@ -8,10 +8,10 @@ use Rattle.explain.proofs.voice.pairs.Statement.{statement}
 use Rattle.explain.proofs.voice.pairs.Tie as tie
 
 abbrev Inv-loop : tie.InvT-loop
-Inv-loop page₀ some now₀ i₀ t7 page now i = length page ≡ length page₀
+Inv-loop some i₀ t3 i = Unit {0}
 
 abbrev μ-loop : tie.MeasureT-loop
-μ-loop page₀ some now₀ i₀ t7 page now i = length some - i
+μ-loop some i₀ t3 i = length some - i
 
 loop-holds : tie.Need-loop-holds Inv-loop μ-loop
 loop-holds c = search needs
@@ -37,9 +37,6 @@ loop-less c = search needs
 loop-again : tie.Need-loop-again Inv-loop μ-loop
 loop-again c = search needs
 
-same-length : tie.Need-same-length Inv-loop μ-loop
-same-length c = search needs
-
 returns : tie.Need-returns Inv-loop μ-loop
 returns c = search needs
 
@@ -57,5 +54,4 @@ pairs-spec =
     add-i
     loop-less
     loop-again
-    same-length
     returns)

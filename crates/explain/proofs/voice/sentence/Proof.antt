@@ -1,5 +1,5 @@
 -- `sentence` goes on octet by octet.
--- What is left of the phrase gets shorter; the page keeps its length. Assumes nothing.
+-- What is left of the phrase gets shorter. Assumes nothing.
 use Prim.Native.Nat.{_-_}
 use mathlib.Core.Path.{_≡_}
 use borrow.Author.Needs.{needs}
@@ -8,28 +8,37 @@ use Rattle.explain.proofs.voice.sentence.Statement.{statement}
 use Rattle.explain.proofs.voice.sentence.Tie as tie
 
 abbrev Inv-loop : tie.InvT-loop
-Inv-loop page₀ phrase values word now₀ used₀ i₀ page now used i = length page ≡ length page₀
+Inv-loop phrase values word used₀ from₀ i₀ used from i = Unit {0}
 
 abbrev μ-loop : tie.MeasureT-loop
-μ-loop page₀ phrase values word now₀ used₀ i₀ page now used i = length phrase - i
+μ-loop phrase values word used₀ from₀ i₀ used from i = length phrase - i
 
 loop-holds : tie.Need-loop-holds Inv-loop μ-loop
 loop-holds c = search needs
 
-shared-slice-read-mark : tie.Need-shared-slice-read-mark Inv-loop μ-loop
-shared-slice-read-mark c = search needs
+shared-slice-read-mark-of : tie.Need-shared-slice-read-mark-of Inv-loop μ-loop
+shared-slice-read-mark-of c = search needs
+
+mark-of-requires : tie.Need-mark-of-requires Inv-loop μ-loop
+mark-of-requires c κs = search needs
+
+between-requires : tie.Need-between-requires Inv-loop μ-loop
+between-requires c κs = search needs
+
+before-requires : tie.Need-before-requires Inv-loop μ-loop
+before-requires c κs = search needs
 
 value-at-requires : tie.Need-value-at-requires Inv-loop μ-loop
 value-at-requires c κs = search needs
 
-mark-requires : tie.Need-mark-requires Inv-loop μ-loop
-mark-requires c κs = search needs
-
-shared-slice-read-used-up : tie.Need-shared-slice-read-used-up Inv-loop μ-loop
-shared-slice-read-used-up c = search needs
+marked-requires : tie.Need-marked-requires Inv-loop μ-loop
+marked-requires c κs = search needs
 
 used-up-requires : tie.Need-used-up-requires Inv-loop μ-loop
 used-up-requires c κs = search needs
+
+unsaid-from-requires : tie.Need-unsaid-from-requires Inv-loop μ-loop
+unsaid-from-requires c κs = search needs
 
 add-i : tie.Need-add-i Inv-loop μ-loop
 add-i c = search needs
@@ -40,8 +49,11 @@ loop-less c = search needs
 loop-again : tie.Need-loop-again Inv-loop μ-loop
 loop-again c = search needs
 
-same-length : tie.Need-same-length Inv-loop μ-loop
-same-length c = search needs
+between-requires-2 : tie.Need-between-requires-2 Inv-loop μ-loop
+between-requires-2 c κs = search needs
+
+say-requires : tie.Need-say-requires Inv-loop μ-loop
+say-requires c κs = search needs
 
 returns : tie.Need-returns Inv-loop μ-loop
 returns c = search needs
@@ -53,13 +65,17 @@ sentence-spec =
     Inv-loop
     μ-loop
     loop-holds
-    shared-slice-read-mark
+    shared-slice-read-mark-of
+    mark-of-requires
+    between-requires
+    before-requires
     value-at-requires
-    mark-requires
-    shared-slice-read-used-up
+    marked-requires
     used-up-requires
+    unsaid-from-requires
     add-i
     loop-less
     loop-again
-    same-length
+    between-requires-2
+    say-requires
     returns)

