@@ -38,10 +38,8 @@ class Call:
 
 
 def calls_of(crate):
-    """The public functions of a crate's source, by name; a method is `Type::name`. A program has none: what is `pub` there is for its own modules."""
+    """The public functions of a crate's source, by name; a method is `Type::name`."""
     calls, owner = {}, ""
-    if (CRATES / crate / "src" / "main.rt").exists():
-        return calls
     for file in sorted((CRATES / crate / "src").glob("*.rt")):
         lines = file.read_text(encoding="utf8").splitlines()
         for at, line in enumerate(lines):

@@ -29,7 +29,7 @@ pub struct Bench {
     pub lent: Lent,
 }
 
-pub fn start() -> Bench {
+pub(crate) fn start() -> Bench {
     Bench {
         card: Card::power_on(),
         lent: Lent {
@@ -249,7 +249,7 @@ fn giving(bench: Bench, request: Request, given: &[u8], image: &[u8]) -> Bench {
 }
 
 // A request is carried out.
-pub fn obey(bench: Bench, request: Request, given: &[u8], image: &mut [u8]) -> Bench {
+pub(crate) fn obey(bench: Bench, request: Request, given: &[u8], image: &mut [u8]) -> Bench {
     let word = request.word;
     match subject(word) {
         About::Octets => told(bench, word, given),

@@ -30,7 +30,7 @@ fn link_of(found: IdentityFound) -> LinkAddress {
 }
 
 // The ACK of the card that is lent an image.
-pub fn acknowledged(image: &[u8]) -> Reply {
+pub(crate) fn acknowledged(image: &[u8]) -> Reply {
     Reply::plain(Control::Ack, link_of(fields::identity_of(image)))
 }
 
@@ -42,14 +42,14 @@ fn addressed(service: u8, last: u8, image: &[u8]) -> [u8; 3] {
 }
 
 // A collection.
-pub fn collection(last: u8, image: &[u8]) -> [u8; 6] {
+pub(crate) fn collection(last: u8, image: &[u8]) -> [u8; 6] {
     let body = addressed(Service::COLLECTION, last, image);
     let sum = octets::checksum(&body);
     [0x10, body[0], body[1], body[2], sum, 0x16]
 }
 
 // User data with a message, written into a space, and how many octets the frame has: none where a message has more than 252.
-pub fn user_data(space: &mut [u8], last: u8, image: &[u8], message: &[u8]) -> usize {
+pub(crate) fn user_data(space: &mut [u8], last: u8, image: &[u8], message: &[u8]) -> usize {
     if 252 < message.len() {
         return 0;
     }
@@ -129,7 +129,7 @@ fn reply(sent: &[u8]) {
 }
 
 // What a gap answered: its number; where a frame is answered, the order, the rule where the reply is an ACK, the reply.
-pub fn gap(number: u8, ordered: Order, time: [u8; 10], met: Met, sent: &[u8]) {
+pub(crate) fn gap(number: u8, ordered: Order, time: [u8; 10], met: Met, sent: &[u8]) {
     frames::number(number);
     if sent.len() == 0 {
         return;
@@ -171,7 +171,7 @@ fn reset_place(reset: bool) -> u8
     0
 }
 
-pub fn state(card: Card) {
+pub(crate) fn state(card: Card) {
     let link = card.link;
     let open = link.session;
     let pending = link.pending;

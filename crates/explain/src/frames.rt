@@ -39,7 +39,7 @@ fn place(form: Form, control: u8) -> u8
 }
 
 // The number of a gap, which is 0 to 9.
-pub fn number(number: u8) {
+pub(crate) fn number(number: u8) {
     words::number(number % 10);
 }
 
@@ -93,7 +93,7 @@ fn variable(indent: usize, octet: u8, to: LinkAddress, carried: &[u8], named: bo
 }
 
 // A run; what it carries is indented so far, and a reply is said to be one where it is to be `named`.
-pub fn explain(indent: usize, run: &[u8], named: bool)
+pub(crate) fn explain(indent: usize, run: &[u8], named: bool)
     requires { ⌜ indent < 8 ⌝ }
 {
     match frame::judge(run) {

@@ -200,7 +200,7 @@ fn records(image: &[u8]) {
 }
 
 // The record at fault is named, where it is not the image as a whole.
-pub fn explain(image: &[u8]) {
+pub(crate) fn explain(image: &[u8]) {
     let fault = faults::of_image(image);
     let rule = fault.rule;
     let why = place(rule);

@@ -37,7 +37,7 @@ fn fault(label: LabelB) {
 }
 
 // A label inside something else: its time, and what is wrong with it. SU is the highest bit of the hour's octet.
-pub fn label(label: LabelB, seconds: bool) {
+pub(crate) fn label(label: LabelB, seconds: bool) {
     let a = label.a;
     let t = a.date_time();
     words::when(t.year, t.month, t.day, t.hour, t.minute);
@@ -52,7 +52,7 @@ fn at_minute(a: LabelA) -> LabelB {
     LabelB { low: 0, high: 0, a }
 }
 
-pub fn label_a(a: LabelA) {
+pub(crate) fn label_a(a: LabelA) {
     label(at_minute(a), false);
 }
 
@@ -73,7 +73,7 @@ fn natural(n: i64) -> u64 {
 }
 
 // A label by itself: where it is valid, also its minute since 1 January 2000 00:00.
-pub fn explain(given: &[u8]) {
+pub(crate) fn explain(given: &[u8]) {
     let read = read(given);
     let a = read.a;
     label(read, given.len() == 7);
@@ -107,7 +107,7 @@ fn unless_valid(which: u8, label: LabelB)
 }
 
 // Two labels a or two labels b, one behind the other. Where one is not valid none comes before the other.
-pub fn compare(given: &[u8]) {
+pub(crate) fn compare(given: &[u8]) {
     let half = given.len() / 2;
     let first = read(octets::part(given, 0, half));
     let second = read(octets::part(given, half, half));

@@ -10,7 +10,7 @@ pub enum Sought {
 }
 
 // A space, a tab, and the octet that some systems put before a newline, are blanks.
-pub fn is_blank(c: u8) -> bool {
+pub(crate) fn is_blank(c: u8) -> bool {
     match c {
         b'\t' | b'\r' | b' ' => true,
         _ => false,
@@ -28,7 +28,7 @@ fn is_sought(sought: Sought, c: u8) -> bool {
 }
 
 // The place of the first such octet from a place on, or where the text ends.
-pub fn find(text: &[u8], from: usize, sought: Sought) -> usize {
+pub(crate) fn find(text: &[u8], from: usize, sought: Sought) -> usize {
     let mut i = from;
     while i < text.len() {
         if is_sought(sought, text[i]) {
@@ -40,7 +40,7 @@ pub fn find(text: &[u8], from: usize, sought: Sought) -> usize {
 }
 
 // One more, of places and counts in a text.
-pub fn one_more(n: usize) -> usize {
+pub(crate) fn one_more(n: usize) -> usize {
     if n < 1048576 {
         return n + 1;
     }
@@ -48,7 +48,7 @@ pub fn one_more(n: usize) -> usize {
 }
 
 // The octets from one place to another.
-pub fn between(text: &[u8], from: usize, to: usize) -> &[u8] {
+pub(crate) fn between(text: &[u8], from: usize, to: usize) -> &[u8] {
     if from < to {
         return octets::part(text, from, to - from);
     }
@@ -56,7 +56,7 @@ pub fn between(text: &[u8], from: usize, to: usize) -> &[u8] {
 }
 
 // How many octets a line has with its newline; one more than there are where none ends it.
-pub fn size(read: &[u8]) -> usize {
+pub(crate) fn size(read: &[u8]) -> usize {
     one_more(find(read, 0, Sought::Newline))
 }
 
@@ -79,7 +79,7 @@ fn trimmed(text: &[u8]) -> &[u8] {
 }
 
 // What stands in a line before its comment, without the blanks at its end.
-pub fn said(line: &[u8]) -> &[u8] {
+pub(crate) fn said(line: &[u8]) -> &[u8] {
     trimmed(octets::part(line, 0, find(line, 0, Sought::Comment)))
 }
 
@@ -103,17 +103,17 @@ fn without(text: &[u8], c: u8) -> &[u8] {
 }
 
 // Whether a text is to go on in the next line: a backslash ends it.
-pub fn goes_on(text: &[u8]) -> bool {
+pub(crate) fn goes_on(text: &[u8]) -> bool {
     ends_with(text, b'\\')
 }
 
 // The text without that backslash.
-pub fn unmarked(text: &[u8]) -> &[u8] {
+pub(crate) fn unmarked(text: &[u8]) -> &[u8] {
     without(text, b'\\')
 }
 
 // A line as it is passed on: without the octet before the newline of some systems.
-pub fn passed_on(line: &[u8]) -> &[u8] {
+pub(crate) fn passed_on(line: &[u8]) -> &[u8] {
     without(line, b'\r')
 }
 
@@ -125,7 +125,7 @@ fn small(c: u8) -> u8 {
 }
 
 // Whether a text is a word of small letters, in large letters or small.
-pub fn is(text: &[u8], word: &[u8]) -> bool {
+pub(crate) fn is(text: &[u8], word: &[u8]) -> bool {
     if text.len() != word.len() {
         return false;
     }

@@ -84,7 +84,7 @@ fn address_place(address: u8) -> u8
     }
 }
 
-pub fn addressed(point: PointAddress, address: u8) {
+pub(crate) fn addressed(point: PointAddress, address: u8) {
     words::addressed(point.0, address, address_place(address));
 }
 
@@ -109,7 +109,7 @@ fn dated(indent: usize, role: u8, label: LabelA)
 }
 
 // From and to; or, from role 2 on, the two switch dates.
-pub fn range(indent: usize, role: u8, first: LabelA, last: LabelA)
+pub(crate) fn range(indent: usize, role: u8, first: LabelA, last: LabelA)
     requires { ⌜ role < 5 ⌝ }
 {
     dated(indent, role, first);
@@ -263,14 +263,14 @@ fn shown(indent: usize, why: u8, some: &[u8])
 }
 
 // Octets that are no message of those that are used here, if there are any.
-pub fn unread(indent: usize, some: &[u8]) {
+pub(crate) fn unread(indent: usize, some: &[u8]) {
     if 0 < some.len() {
         shown(indent, 0, some);
     }
 }
 
 // A message of six octets or more. What stands behind the header is on lines of its own.
-pub fn explain(indent: usize, m: &[u8]) {
+pub(crate) fn explain(indent: usize, m: &[u8]) {
     let request = Request::read(m);
     let head = request.header;
     let size = size(head.type_id, head.structure);

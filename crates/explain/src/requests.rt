@@ -104,7 +104,7 @@ fn word_of(text: &[u8]) -> Word {
     Word::Unknown
 }
 
-pub fn is_fine(matter: Matter) -> bool {
+pub(crate) fn is_fine(matter: Matter) -> bool {
     match matter {
         Matter::Fine => true,
         _ => false,
@@ -372,7 +372,7 @@ fn dropped(request: Request, matter: Matter, line: u64) -> Request {
     }
 }
 
-pub fn none() -> Request {
+pub(crate) fn none() -> Request {
     Request {
         word: Word::Unknown,
         argument: nothing_yet(),
@@ -383,7 +383,7 @@ pub fn none() -> Request {
 }
 
 // The next line is read: it is passed on, or a request begins in it or goes on.
-pub fn with_line(request: Request, number: u64, line: &[u8], given: &mut [u8]) -> Request {
+pub(crate) fn with_line(request: Request, number: u64, line: &[u8], given: &mut [u8]) -> Request {
     let text = lines::said(line);
     let word = request.word;
     let argument = request.argument;
@@ -396,12 +396,12 @@ pub fn with_line(request: Request, number: u64, line: &[u8], given: &mut [u8]) -
     begun(number, text, given)
 }
 
-pub fn with_long_line(request: Request, number: u64) -> Request {
+pub(crate) fn with_long_line(request: Request, number: u64) -> Request {
     dropped(request, Matter::TooLong, number)
 }
 
 // No line is left. A request that was to go on is dropped, which is said unless something else was the matter.
-pub fn with_end(request: Request) -> Request {
+pub(crate) fn with_end(request: Request) -> Request {
     let argument = request.argument;
     let matter = argument.matter;
     if request.goes_on {
@@ -413,7 +413,7 @@ pub fn with_end(request: Request) -> Request {
 }
 
 // The place of what is expected among the words; 13 where nothing else is.
-pub fn place(matter: Matter) -> u8
+pub(crate) fn place(matter: Matter) -> u8
     ensures { λ r. ⌜ r < 14 ⌝ }
 {
     match matter {
@@ -435,7 +435,7 @@ pub fn place(matter: Matter) -> u8
 }
 
 // Whether a line may follow.
-pub fn is_going(request: Request) -> bool {
+pub(crate) fn is_going(request: Request) -> bool {
     let step = request.step;
     match step {
         Step::End => false,

@@ -7,12 +7,12 @@ use crate::lines::between;
 use crate::lines::find;
 use crate::lines::one_more;
 
-pub fn say(text: &[u8]) {
+pub(crate) fn say(text: &[u8]) {
     io::write_all(1, text);
 }
 
 // A new line, which begins with so many blanks, eight at most.
-pub fn line(indent: usize) {
+pub(crate) fn line(indent: usize) {
     let blanks = octets::part(b"        ", 0, indent);
     say(b"\n");
     say(blanks);
@@ -41,7 +41,7 @@ fn pair(octet: u8) {
 }
 
 // Octets in hex, each behind a blank.
-pub fn pairs(some: &[u8]) {
+pub(crate) fn pairs(some: &[u8]) {
     let mut i = 0;
     while i < some.len() {
         say(b" ");
@@ -129,7 +129,7 @@ fn sentence(phrase: &[u8], values: [u64; 6], word: &[u8]) {
     say(between(phrase, from, i));
 }
 
-pub fn phrase(phrase: &[u8], values: [u64; 6]) {
+pub(crate) fn phrase(phrase: &[u8], values: [u64; 6]) {
     sentence(phrase, values, b"");
 }
 
@@ -139,7 +139,7 @@ fn word_end(table: &[u8], from: usize) -> usize {
 }
 
 // The word that stands in a table behind so many others; each ends with a semicolon.
-pub fn nth(table: &[u8], n: u8) -> &[u8]
+pub(crate) fn nth(table: &[u8], n: u8) -> &[u8]
     requires { ⌜ n < wordsIn (now table) ⌝ }
 {
     let mut from = 0;
@@ -151,21 +151,21 @@ pub fn nth(table: &[u8], n: u8) -> &[u8]
     between(table, from, word_end(table, from))
 }
 
-pub fn word(table: &[u8], n: u8)
+pub(crate) fn word(table: &[u8], n: u8)
     requires { ⌜ n < wordsIn (now table) ⌝ }
 {
     say(nth(table, n));
 }
 
 // A phrase that stands in a table.
-pub fn phrase_of(table: &[u8], n: u8, values: [u64; 6])
+pub(crate) fn phrase_of(table: &[u8], n: u8, values: [u64; 6])
     requires { ⌜ n < wordsIn (now table) ⌝ }
 {
     sentence(nth(table, n), values, b"");
 }
 
 // A phrase in which a word of a table stands.
-pub fn naming(phrase: &[u8], values: [u64; 6], table: &[u8], n: u8)
+pub(crate) fn naming(phrase: &[u8], values: [u64; 6], table: &[u8], n: u8)
     requires { ⌜ n < wordsIn (now table) ⌝ }
 {
     sentence(phrase, values, nth(table, n));

@@ -14,28 +14,28 @@ const REQUESTS: [u8; 97] =
     *b"label;compare;frame;message;image;clock;buffer;power-on;session;octets;gap;run;ask;collect;state;";
 
 // Whether a text is the request's word, in large letters or small.
-pub fn is_request(text: &[u8], n: u8) -> bool
+pub(crate) fn is_request(text: &[u8], n: u8) -> bool
     requires { ⌜ n < 15 ⌝ }
 {
     lines::is(text, voice::nth(&REQUESTS, n))
 }
 
-pub fn request(n: u8)
+pub(crate) fn request(n: u8)
     requires { ⌜ n < 15 ⌝ }
 {
     naming(b" *", [0; 6], &REQUESTS, n)
 }
 
 // Where it is: a line, or a place in it.
-pub fn line(line: u64) {
+pub(crate) fn line(line: u64) {
     phrase(b"line %: ", [line, 0, 0, 0, 0, 0])
 }
 
-pub fn column(line: u64, column: u64) {
+pub(crate) fn column(line: u64, column: u64) {
     phrase(b"line %, column %: ", [line, column, 0, 0, 0, 0])
 }
 
-pub fn expected(what: u8)
+pub(crate) fn expected(what: u8)
     requires { ⌜ what < 13 ⌝ }
 {
     word(
@@ -47,7 +47,7 @@ pub fn expected(what: u8)
 // ---- labels ----
 
 // The date and the time.
-pub fn when(year: u8, month: u8, day: u8, hour: u8, minute: u8) {
+pub(crate) fn when(year: u8, month: u8, day: u8, hour: u8, minute: u8) {
     phrase(
         b"%-&-& &:&",
         [
@@ -61,22 +61,22 @@ pub fn when(year: u8, month: u8, day: u8, hour: u8, minute: u8) {
     )
 }
 
-pub fn seconds(second: u8, millisecond: u16) {
+pub(crate) fn seconds(second: u8, millisecond: u16) {
     phrase(b":&.$", [second as u64, millisecond as u64, 0, 0, 0, 0])
 }
 
 // 0 winter, 1 summer.
-pub fn season(season: u8)
+pub(crate) fn season(season: u8)
     requires { ⌜ season < 2 ⌝ }
 {
     word(b" winter time; summer time;", season)
 }
 
-pub fn valid(minute: u64) {
+pub(crate) fn valid(minute: u64) {
     phrase(b", valid, minute %", [minute, 0, 0, 0, 0, 0])
 }
 
-pub fn not_valid(why: u8)
+pub(crate) fn not_valid(why: u8)
     requires { ⌜ why < 12 ⌝ }
 {
     naming(
@@ -87,7 +87,7 @@ pub fn not_valid(why: u8)
     )
 }
 
-pub fn order(order: u8)
+pub(crate) fn order(order: u8)
     requires { ⌜ order < 4 ⌝ }
 {
     word(
@@ -97,7 +97,7 @@ pub fn order(order: u8)
 }
 
 // One of two labels.
-pub fn which(which: u8)
+pub(crate) fn which(which: u8)
     requires { ⌜ which < 2 ⌝ }
 {
     word(b"the first;the second;", which)
@@ -106,7 +106,7 @@ pub fn which(which: u8)
 // ---- frames ----
 
 // The number that a gap answers.
-pub fn number(number: u8)
+pub(crate) fn number(number: u8)
     requires { ⌜ number < 10 ⌝ }
 {
     naming(
@@ -118,7 +118,7 @@ pub fn number(number: u8)
 }
 
 // What the centre asks, with the FCB where it counts.
-pub fn asks(what: u8, fcb: u8)
+pub(crate) fn asks(what: u8, fcb: u8)
     requires { ⌜ what < 4 ⌝ }
 {
     phrase_of(
@@ -128,34 +128,34 @@ pub fn asks(what: u8, fcb: u8)
     )
 }
 
-pub fn is_reply() {
+pub(crate) fn is_reply() {
     phrase(b"reply ", [0; 6])
 }
 
-pub fn replies(what: u8)
+pub(crate) fn replies(what: u8)
     requires { ⌜ what < 5 ⌝ }
 {
     word(b"ACK;NACK;data;nothing to give;status of the link;", what)
 }
 
-pub fn no_reply(control: u8) {
+pub(crate) fn no_reply(control: u8) {
     phrase(
         b"a reply's control field that is none: ~",
         [control as u64, 0, 0, 0, 0, 0],
     )
 }
 
-pub fn link_address(link: u16) {
+pub(crate) fn link_address(link: u16) {
     phrase(b", link address %", [link as u64, 0, 0, 0, 0, 0])
 }
 
-pub fn user_octets(many: u64) {
+pub(crate) fn user_octets(many: u64) {
     phrase(b", user octets %", [many, 0, 0, 0, 0, 0])
 }
 
 // ---- messages ----
 
-pub fn type_id(type_id: u8, place: u8)
+pub(crate) fn type_id(type_id: u8, place: u8)
     requires { ⌜ place < 22 ⌝ }
 {
     naming(
@@ -167,13 +167,13 @@ pub fn type_id(type_id: u8, place: u8)
 }
 
 // SQ is the structure octet's highest bit, N the others.
-pub fn structure(sq: u8, n: u8)
+pub(crate) fn structure(sq: u8, n: u8)
     requires { ⌜ sq < 2 ⌝ }
 {
     phrase_of(b", N %;, SQ 1, N %;", sq, [n as u64, 0, 0, 0, 0, 0])
 }
 
-pub fn cause(cause: u8, place: u8)
+pub(crate) fn cause(cause: u8, place: u8)
     requires { ⌜ place < 15 ⌝ }
 {
     naming(
@@ -185,7 +185,7 @@ pub fn cause(cause: u8, place: u8)
 }
 
 // The two highest bits of the cause's octet: T, then P/N.
-pub fn marks(marks: u8)
+pub(crate) fn marks(marks: u8)
     requires { ⌜ marks < 4 ⌝ }
 {
     word(
@@ -194,7 +194,7 @@ pub fn marks(marks: u8)
     )
 }
 
-pub fn addressed(point: u16, address: u8, place: u8)
+pub(crate) fn addressed(point: u16, address: u8, place: u8)
     requires { ⌜ place < 11 ⌝ }
 {
     naming(
@@ -206,7 +206,7 @@ pub fn addressed(point: u16, address: u8, place: u8)
 }
 
 // 0 as they are, 1 because they do not fit, 2 where there are none that could fit.
-pub fn octets(why: u8)
+pub(crate) fn octets(why: u8)
     requires { ⌜ why < 3 ⌝ }
 {
     word(
@@ -215,12 +215,12 @@ pub fn octets(why: u8)
     )
 }
 
-pub fn objects(first: u8, last: u8) {
+pub(crate) fn objects(first: u8, last: u8) {
     phrase(b"objects % to %", [first as u64, last as u64, 0, 0, 0, 0])
 }
 
 // What a label is, on a line of its own.
-pub fn role(role: u8)
+pub(crate) fn role(role: u8)
     requires { ⌜ role < 6 ⌝ }
 {
     word(
@@ -230,7 +230,7 @@ pub fn role(role: u8)
 }
 
 // Four octets, high octet first.
-pub fn password(octets: [u8; 4]) {
+pub(crate) fn password(octets: [u8; 4]) {
     phrase(
         b"password ~~~~",
         [
@@ -245,7 +245,7 @@ pub fn password(octets: [u8; 4]) {
 }
 
 // 0 not below zero, 1 below.
-pub fn object(object: u8, below: u8, size: u64)
+pub(crate) fn object(object: u8, below: u8, size: u64)
     requires { ⌜ below < 2 ⌝ }
 {
     phrase_of(
@@ -255,25 +255,25 @@ pub fn object(object: u8, below: u8, size: u64)
     )
 }
 
-pub fn quality() {
+pub(crate) fn quality() {
     phrase(b", quality", [0; 6])
 }
 
 // A bit of the quality octet, from the highest on.
-pub fn quality_bit(bit: u8)
+pub(crate) fn quality_bit(bit: u8)
     requires { ⌜ bit < 8 ⌝ }
 {
     word(b" IV; CA; CY; VH; MP; INT; AL; bit 0;", bit)
 }
 
-pub fn event(spa: u8, spq: u8, spi: u8) {
+pub(crate) fn event(spa: u8, spq: u8, spi: u8) {
     phrase(
         b"SPA %, SPQ %, SPI %, ",
         [spa as u64, spq as u64, spi as u64, 0, 0, 0],
     )
 }
 
-pub fn identity(date: u8, maker: u8, product: u32) {
+pub(crate) fn identity(date: u8, maker: u8, product: u32) {
     phrase(
         b"date %, maker %, product %",
         [date as u64, maker as u64, product as u64, 0, 0, 0],
@@ -283,7 +283,7 @@ pub fn identity(date: u8, maker: u8, product: u32) {
 // ---- images ----
 
 // 0 not sound, 1 sound.
-pub fn image(many: u64, sound: u8)
+pub(crate) fn image(many: u64, sound: u8)
     requires { ⌜ sound < 2 ⌝ }
 {
     phrase_of(
@@ -293,11 +293,11 @@ pub fn image(many: u64, sound: u8)
     )
 }
 
-pub fn record(number: u64, place: u64) {
+pub(crate) fn record(number: u64, place: u64) {
     phrase(b"record % at octet %: ", [number, place, 0, 0, 0, 0])
 }
 
-pub fn unsound(why: u8)
+pub(crate) fn unsound(why: u8)
     requires { ⌜ why < 19 ⌝ }
 {
     word(
@@ -306,32 +306,32 @@ pub fn unsound(why: u8)
     )
 }
 
-pub fn head(link: u16, date: u8, maker: u8, product: u32) {
+pub(crate) fn head(link: u16, date: u8, maker: u8, product: u32) {
     phrase(
         b"link address %, date %, maker %, product %",
         [link as u64, date as u64, maker as u64, product as u64, 0, 0],
     )
 }
 
-pub fn point(point: u16) {
+pub(crate) fn point(point: u16) {
     phrase(b"point %", [point as u64, 0, 0, 0, 0, 0])
 }
 
 // 0 readings, 1 events.
-pub fn many(many: u64, kind: u8)
+pub(crate) fn many(many: u64, kind: u8)
     requires { ⌜ kind < 2 ⌝ }
 {
     phrase_of(b": readings %;: events %;", kind, [many, 0, 0, 0, 0, 0])
 }
 
 // 0 the first of a group, 1 the last.
-pub fn end(end: u8)
+pub(crate) fn end(end: u8)
     requires { ⌜ end < 2 ⌝ }
 {
     word(b", first ;, last ;", end)
 }
 
-pub fn missing(what: u8)
+pub(crate) fn missing(what: u8)
     requires { ⌜ what < 4 ⌝ }
 {
     word(
@@ -342,16 +342,16 @@ pub fn missing(what: u8)
 
 // ---- the card and what is lent to it ----
 
-pub fn buffer(many: u64) {
+pub(crate) fn buffer(many: u64) {
     phrase(b"reply buffer of % octets", [many, 0, 0, 0, 0, 0])
 }
 
-pub fn octets_in(many: u64) {
+pub(crate) fn octets_in(many: u64) {
     phrase(b"octets in: %", [many, 0, 0, 0, 0, 0])
 }
 
 // 0 none, 1 the clock, 2 the dates.
-pub fn ordered(what: u8)
+pub(crate) fn ordered(what: u8)
     requires { ⌜ what < 3 ⌝ }
 {
     word(
@@ -360,7 +360,7 @@ pub fn ordered(what: u8)
     )
 }
 
-pub fn rule(rule: u8)
+pub(crate) fn rule(rule: u8)
     requires { ⌜ rule < 19 ⌝ }
 {
     naming(
@@ -371,12 +371,12 @@ pub fn rule(rule: u8)
     )
 }
 
-pub fn reply() {
+pub(crate) fn reply() {
     phrase(b"reply", [0; 6])
 }
 
 // 0 not reset, 1 reset.
-pub fn link(reset: u8, fcb: u8)
+pub(crate) fn link(reset: u8, fcb: u8)
     requires { ⌜ reset < 2 ⌝ }
 {
     phrase_of(
@@ -387,7 +387,7 @@ pub fn link(reset: u8, fcb: u8)
 }
 
 // 0 of a point, 1 none.
-pub fn session(closed: u8, point: u16)
+pub(crate) fn session(closed: u8, point: u16)
     requires { ⌜ closed < 2 ⌝ }
 {
     phrase_of(
@@ -397,7 +397,7 @@ pub fn session(closed: u8, point: u16)
     )
 }
 
-pub fn waits(what: u8, number: u64)
+pub(crate) fn waits(what: u8, number: u64)
     requires { ⌜ what < 8 ⌝ }
 {
     phrase_of(
@@ -407,6 +407,6 @@ pub fn waits(what: u8, number: u64)
     )
 }
 
-pub fn damaged(damaged: u16) {
+pub(crate) fn damaged(damaged: u16) {
     phrase(b", damaged runs %", [damaged as u64, 0, 0, 0, 0, 0])
 }
