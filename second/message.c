@@ -82,6 +82,13 @@ struct choice message_choice(const uint8_t *request)
     return choice;
 }
 
+struct object_range message_objects(const uint8_t *request)
+{
+    struct object_range objects = {request[OBJECT_FIRST_AT], request[OBJECT_LAST_AT]};
+
+    return objects;
+}
+
 static bool session_is_of(struct session session, struct point_address point)
 {
     return session.open && session.point.number == point.number;
@@ -141,12 +148,20 @@ static bool any_chosen(const struct record_table *table, const uint8_t *request)
     return choose(table, &choice, 0, 1, &body) == 1;
 }
 
-/* "first object not 1 or last not 6, 17. A label not valid, first after last,
-   or no reading chosen, 18." */
+/* Document 02, #101: "17 now exactly when first is 0, last is over 6 or first is
+   after last". */
+static bool objects_real(struct object_range objects)
+{
+    return objects.first != 0 && objects.last <= READING_OBJECTS &&
+           objects.first <= objects.last;
+}
+
+/* #101: "its place is unchanged", which is before "A label not valid, first
+   after last, or no reading chosen, 18." */
 static struct verdict judge_readings(const uint8_t *request, struct session session,
                                      const struct meter_image *image)
 {
-    if (request[OBJECT_FIRST_AT] != 1 || request[OBJECT_LAST_AT] != READING_OBJECTS)
+    if (!objects_real(message_objects(request)))
         return refused(session, CAUSE_NO_OBJECT);
     if (!span_real(request) || !any_chosen(&image->readings, request))
         return refused(session, CAUSE_NO_PERIOD);

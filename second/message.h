@@ -81,6 +81,16 @@ struct verdict message_judge(const uint8_t *request, size_t length,
 /* Of a request of type 102, 122 or 123 of its listed length. */
 struct choice message_choice(const uint8_t *request);
 
+/* Document 02, #101: "any first and last with 1 <= first <= last <= 6". */
+struct object_range {
+    uint8_t first;
+    uint8_t last;
+};
+
+/* Of a request of type 122 or 123 of its listed length; judged by
+   message_judge, not here. */
+struct object_range message_objects(const uint8_t *request);
+
 struct point_address message_point(const uint8_t *request);
 
 #endif

@@ -100,24 +100,34 @@ static size_t give_dates(const struct waiting *waiting,
     return HEADER_OCTETS + 2 * LABEL_A_OCTETS;
 }
 
-/* "one reading each, 47 octets, N 6: header, six times (object number, value,
-   quality), label" */
+/* The value of one of the six objects, with its quality behind it. */
+static const uint8_t *reading_value(const uint8_t *reading, uint8_t object)
+{
+    return reading + READING_VALUES_AT + (object - 1) * (VALUE_OCTETS + 1);
+}
+
+/* "one reading each": header, for each object its number, value and quality,
+   then the label. Document 02, #101: "The reply then carries just those objects,
+   N = last - first + 1, and has 11 + 6N octets." First and last are read anew
+   from the kept request, with every reading. */
 static size_t give_reading(const struct waiting *waiting, const uint8_t *reading,
                            uint8_t *user)
 {
     uint8_t type = waiting->request[TYPE_AT] == TYPE_TOTALS ? REPLY_TOTALS
                                                             : REPLY_PERIODS;
-    const uint8_t *value = reading + READING_VALUES_AT;
+    struct object_range objects = message_objects(waiting->request);
+    size_t n = objects.last - objects.first + 1u;
     uint8_t *end = user + HEADER_OCTETS;
 
-    write_header(waiting, type, READING_OBJECTS, user);
-    for (uint8_t object = 1; object <= READING_OBJECTS; object++) {
+    write_header(waiting, type, n, user);
+    for (uint8_t object = objects.first; object <= objects.last; object++) {
+        const uint8_t *value = reading_value(reading, object);
+
         *end++ = object;
         /* Big-endian in the image, low octet first on the wire. */
         for (size_t i = VALUE_OCTETS; i > 0; i--)
             *end++ = value[i - 1];
         *end++ = value[VALUE_OCTETS];
-        value += VALUE_OCTETS + 1;
     }
     memcpy(end, reading + READING_LABEL_AT, LABEL_A_OCTETS);
     return (size_t)(end - user) + LABEL_A_OCTETS;

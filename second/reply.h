@@ -22,7 +22,7 @@ enum next_reply {
 
 struct waiting {
     enum next_reply next;
-    uint8_t request[USER_OCTETS_MOST]; /* what mirrors are made of */
+    uint8_t request[USER_OCTETS_MOST]; /* for mirrors, choice and objects */
     size_t request_length;
     enum cause cause;                  /* of NEXT_MIRROR */
     bool negative;

@@ -4,6 +4,7 @@ from collections import Counter
 
 FIXED_REPLIES = {0x00: "ACK", 0x01: "NACK", 0x09: "nothing (09)", 0x0B: "status (0B)"}
 REPLY_TYPES = (1, 8, 11, 71, 72, 131)
+READING_TYPES, OBJECTS, OBJECT_OCTETS = (8, 11), range(1, 7), 6
 REQUEST_TYPES = (100, 102, 103, 122, 123, 181, 183, 185, 186, 187)
 CAUSES = ("7", "7 P/N", "10", "13", "14", "15", "16", "17", "18")
 FAULTS = ("version", "image", "cut", "call")
@@ -34,6 +35,7 @@ class Coverage:
         self.numbers = Counter()    # by face and number, or face and fault word
         self.orders = Counter()
         self.replies = Counter()    # fixed replies by name, data replies by type
+        self.objects = Counter()    # of readings, by type, first and last object
         self.mirrors = Counter()    # by request type and cause
         self.most_octets = 0
 
@@ -60,6 +62,9 @@ class Coverage:
             self.replies[FIXED_REPLIES.get(reply[1], "other")] += 1
         elif reply[9] & CAUSE_BITS == DATA:
             self.replies[reply[7]] += 1
+            last = 13 + OBJECT_OCTETS * (reply[8] - 1)
+            if reply[7] in READING_TYPES and last < len(reply):
+                self.objects[reply[7], reply[13], reply[last]] += 1
         else:
             cause = str(reply[9] & CAUSE_BITS) + (" P/N" if reply[9] & P_N else "")
             self.mirrors[reply[7] if reply[7] in REQUEST_TYPES else "other", cause] += 1
@@ -75,6 +80,10 @@ class Coverage:
             rows.append(f"| {reply if isinstance(reply, str) else f'type {reply}'} | {self.replies[reply]} |")
         for order in ("clock", "dates"):
             rows.append(f"| order {order} | {self.orders[order]} |")
+        for kind in READING_TYPES:
+            rows += ["", f"| type {kind} from, to | " + " | ".join(map(str, OBJECTS)) + " |", "|---" * (len(OBJECTS) + 1) + "|"]
+            for first in OBJECTS:
+                rows.append(f"| {first} | " + " | ".join(str(self.objects[kind, first, last] or "") for last in OBJECTS) + " |")
         rows += ["", "| mirror of | " + " | ".join(CAUSES) + " |", "|---" * (len(CAUSES) + 1) + "|"]
         for kind in (*REQUEST_TYPES, "other"):
             rows.append(f"| {kind} | " + " | ".join(str(self.mirrors[kind, cause] or "") for cause in CAUSES) + " |")

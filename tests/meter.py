@@ -261,6 +261,19 @@ def meter_of_readings(count, record=21):
                                            place.to_bytes(4, "big") * 7 + bytes(2)) for place in range(count)))
 
 
+def meter_of_objects(count, turned=False):
+    """One point with `count` readings, 4 at most, of each record; every octet of a value or quality occurs only once.
+    Turned, the same minutes have other octets."""
+    start = minute_of(2020, 2, 29, 23, 45)
+    readings = []
+    for record in READING_RECORDS:
+        for minute in range(start, start + 15 * count, 15):
+            octets = bytes(range(30 * len(readings), 30 * len(readings) + 30))
+            readings.append(Reading(1, record, minute, label_a(minute, 7, 1),
+                                    bytes(255 - octet for octet in octets) if turned else octets))
+    return Meter(9, readings=tuple(readings))
+
+
 def fullest_meter():
     """Exactly 65,535 octets: 1,597 readings, the dates, one event and a second point."""
     meter = meter_of_readings(1597)

@@ -6,7 +6,7 @@
 - docs/READING.md: the lines of the files in its tables, and the figures that stand between `<!--NAME-->` and `<!---->`. A file of the table
   of what has to be believed uses no other definitions than those of that table; nor do the contracts of the card.
 - docs/SLIPS.md is written by slips.py; here it is seen that nothing that its rows rest on has changed since.
-- README.md: explain's example is the one that is run.
+- README.md: explain's examples are those that are run.
 
 It is an error if a public call has no row, a row no call, a call with a contract fewer than two wrong answers, an edit a call that
 is not there, or a file of definitions no place in docs/READING.md. Status 1 then, and with --check if a document is not current.
@@ -20,7 +20,8 @@ from programs import ROOT
 from slips import TABLE as SLIPS, rests_on
 
 CRATES, CONTRACTS, READING = ROOT / "crates", ROOT / "docs" / "CONTRACTS.md", ROOT / "docs" / "READING.md"
-README, EXAMPLE, STORED = ROOT / "README.md", ROOT / "examples" / "explain.txt", CRATES / "explain"
+README, STORED = ROOT / "README.md", CRATES / "explain"
+EXAMPLES = ("explain.txt", "active-energy.txt")
 WORKED_OUT = ("fields/specs/working/Key", "image/specs/working/Keys", "choice/specs/working/Keys", "faults/specs/working/Walking")
 PROGRAMS = ("input", "stream", "printing", "turns", "driving", "explain")
 BESIDES = "## What is said besides"
@@ -201,21 +202,23 @@ def reading(text, every, errors):
     return re.sub(r"<!--(\w+)-->[\d,]*<!---->", figure, text)
 
 
-def see_example(errors):
-    """README shows explain's example and what is written for it: the beginning of the program's stored input and output, up to an empty line."""
-    example, readme = EXAMPLE.read_text(encoding="utf8"), README.read_text(encoding="utf8")
-    given, written = ((STORED / name).read_text(encoding="utf8").partition("\n\n")[0] + "\n" for name in ("stdin", "stdout"))
-    if given != example:
-        errors.append("crates/explain/stdin does not begin with examples/explain.txt and an empty line")
-    for text in (example, written):
-        if "".join(f"    {line}\n" for line in text.splitlines()) not in readme:
-            errors.append("README.md does not show explain's example with what is written for it")
+def see_examples(errors):
+    """README shows explain's examples and what is written for them: the program's stored input and output begin with these, each up to an empty line."""
+    readme = README.read_text(encoding="utf8")
+    given, written = ((STORED / name).read_text(encoding="utf8").split("\n\n", len(EXAMPLES)) for name in ("stdin", "stdout"))
+    for at, name in enumerate(EXAMPLES):
+        example = (ROOT / "examples" / name).read_text(encoding="utf8")
+        if given[at] + "\n" != example:
+            errors.append(f"crates/explain/stdin does not begin with the examples: examples/{name} and an empty line are expected")
+        for text in (example, written[at]):
+            if "".join(f"    {line}\n" for line in text.splitlines()) not in readme:
+                errors.append(f"README.md does not show examples/{name} with what is written for it")
 
 
 def main(words):
     errors = []
     every = read_calls(errors)
-    see_example(errors)
+    see_examples(errors)
     for path, written in ((CONTRACTS, contracts), (READING, reading)):
         old = path.read_text(encoding="utf8")
         new = written(old, every, errors)

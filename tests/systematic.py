@@ -8,10 +8,10 @@ from dataclasses import replace
 
 from generate import conversation
 from lines import DriveLine, PrintLine
-from meter import (LAST_MILLISECOND, RICH, UNSOUND, Meter, fullest_meter, meter_of_events, meter_of_readings,
-                   overfull_meter, sound_images, without_point)
+from meter import (LAST_MILLISECOND, RICH, UNSOUND, Meter, fullest_meter, meter_of_events, meter_of_objects,
+                   meter_of_readings, overfull_meter, sound_images, without_point)
 from wire import (CLASS_2, CLOCK, CLOSE, DATES, EVENT_RECORDS, EVENTS, FCB, IDENTITY, LABEL_A_SPOILS, LABEL_B_SPOILS,
-                  LAST_MINUTE, PERIODS, RESET, ROWS, SET_CLOCK, SET_DATES, STATUS, TOTALS, USER_DATA,
+                  LAST_MINUTE, OBJECT_RANGES, PERIODS, RESET, ROWS, SET_CLOCK, SET_DATES, STATUS, TOTALS, USER_DATA,
                   Request, events_request, fixed, label_a, label_b, low_first, minute_of, open_request,
                   readings_request, spoil_label_a, spoil_label_b, variable)
 
@@ -46,6 +46,13 @@ class Talk:
         for _ in range(times):
             self.line.run(fixed(CLASS_2 | self.fcb, self.meter.link))
             self.fcb ^= FCB
+
+    def collect_twice(self, times):
+        """Each collection repeated with the same FCB."""
+        for _ in range(times):
+            self.collect()
+            self.fcb ^= FCB
+            self.collect()
 
     def open(self, point=None):
         """From a reset on, with the right password."""
@@ -214,10 +221,7 @@ def requests_accepted(face):
         talk.open(point)
         for request in accepted_requests(point):
             talk.ask(request)
-            for _ in range(12):
-                talk.collect()
-                talk.fcb ^= FCB
-                talk.collect()
+            talk.collect_twice(12)
         talk.ask(Request(IDENTITY, point))
         talk.collect(2)
     yield "requests accepted", talk.octets()
@@ -278,7 +282,7 @@ def rule_pairs(face):
     def longer(request): request.body += b"\x00"
     def caused(request): request.cause ^= 3
     def recorded(request): request.record ^= 0x40
-    def objected(request): request.body = b"\x02" + request.body[1:]
+    def objected(request): request.body = b"\x07" + request.body[1:]
     def labelled(request): request.body = request.body[:-1] + b"\xFF"
 
     faults = (marked, unlisted, no_point, other_point, structured, longer, caused, recorded, objected, labelled)
@@ -389,6 +393,54 @@ def ranges(face):
         yield f"ranges of record {record}", talk.octets()
 
 
+# ---- ranges of objects ----
+
+def object_ranges(face):
+    """All 21 ranges for 122 and for 123, each collected to the end and once more, each reply repeated."""
+    talk = Talk(face, meter_of_objects(4))
+    talk.open()
+    for kind in (TOTALS, PERIODS):
+        for objects in OBJECT_RANGES:
+            talk.ask(readings_request(kind, 1, FIRST_LABEL, LAST_LABEL, objects))
+            talk.collect_twice(7)
+    yield "ranges of objects", talk.octets()
+
+
+def object_pairs(face):
+    """Every pair of firsts and lasts around the borders of the rules and of a signed octet, and 1 and 6 with bit 8 set.
+    The labels are right."""
+    ends = (*range(9), 127, 128, 129, 134, 254, 255)
+    talk = Talk(face, meter_of_objects(1))
+    for kind in (TOTALS, PERIODS):
+        for first in ends:
+            for last in ends:
+                talk.open()
+                talk.ask(readings_request(kind, 1, FIRST_LABEL, LAST_LABEL, (first, last)))
+                talk.collect(4)
+    yield "pairs of objects", talk.octets()
+
+
+def objects_and_labels(face):
+    """Ranges of objects, wrong by each rule and right, together with labels that are wrong by each rule and right."""
+    meter = meter_of_objects(2)
+    before, behind = (label_a(meter.readings[place].minute + step) for place, step in ((0, -1), (-1, 1)))
+    between = label_a(meter.readings[0].minute + 1)
+    spans = [(FIRST_LABEL, LAST_LABEL), (before, behind), (behind, before), (between, before), (before, before),
+             (between, between), (behind, LAST_LABEL), (bytes(5), bytes(5)), (b"\xFF" * 5, b"\xFF" * 5)]
+    for way in ("minute 60", "IV", "day 0", "29 February 2001", "year 100"):
+        spans += [(spoil_label_a(FIRST_LABEL, way), LAST_LABEL), (FIRST_LABEL, spoil_label_a(LAST_LABEL, way))]
+    pairs = [(0, 6), (0, 0), (1, 7), (7, 7), (2, 1), (6, 1), (7, 6), (0, 7), (1, 255), (255, 1), (1, 0), (128, 129),
+             (1, 6), (1, 1), (6, 6), (2, 5), (3, 4)]
+    talk = Talk(face, meter)
+    for kind in (TOTALS, PERIODS):
+        for objects in pairs:
+            for span in spans:
+                talk.open()
+                talk.ask(readings_request(kind, 1, *span, objects))
+                talk.collect(2)
+    yield "objects and labels", talk.octets()
+
+
 # ---- many records ----
 
 def many_events(face):
@@ -452,8 +504,8 @@ def long_conversation(face):
 
 def both_faces(face):
     for family in (count_bit, control_octets, lengths_of_frames, damaged_frames, requests_accepted, requests_refused,
-                   headers, rule_pairs, sessions, labels_set, labels_asked, ranges, many_events, many_readings,
-                   fullest_images, clocks):
+                   headers, rule_pairs, sessions, labels_set, labels_asked, ranges, object_ranges, object_pairs,
+                   objects_and_labels, many_events, many_readings, fullest_images, clocks):
         yield from family(face)
 
 
@@ -611,6 +663,27 @@ def grown_images():
             yield f"{before} events become {after}", talk.octets()
 
 
+def exchanged_objects():
+    """Every range of objects, with the image exchanged after each number of collections for one with other values, for
+    one with fewer readings and for one with more; a request for another range, which has to wait, changes nothing."""
+    meter = meter_of_objects(3)
+    talk = Talk("drive", meter)
+    for other in (meter_of_objects(3, turned=True), meter_of_objects(1, turned=True), meter_of_objects(4)):
+        for kind in (TOTALS, PERIODS):
+            for first, last in OBJECT_RANGES:
+                for before in range(1, 4):
+                    talk.exchange(meter)
+                    talk.open()
+                    talk.ask(readings_request(kind, 1, FIRST_LABEL, LAST_LABEL, (first, last)))
+                    talk.collect(before)
+                    talk.ask(readings_request(kind, 1, FIRST_LABEL, LAST_LABEL, (7 - last, 7 - first)))
+                    talk.exchange(other)
+                    talk.collect_twice(1)
+                    talk.exchange(meter)
+                    talk.collect(4)
+    yield "ranges of objects, exchanged", talk.octets()
+
+
 def damaged_count():
     """The count of damaged runs past 65,535, and what does not count."""
     line = DriveLine(None, BARE.octets, NOON)
@@ -631,7 +704,7 @@ def systematic_inputs():
         for name, octets in family():
             yield "print", name, octets
     for family in (drive_faults, short_buffers, kept_runs, unsound_lent, sound_lent, exchanged_images, grown_images,
-                   lambda: both_faces("drive"), lambda: long_conversation("drive"), damaged_count):
+                   exchanged_objects, lambda: both_faces("drive"), lambda: long_conversation("drive"), damaged_count):
         for name, octets in family():
             yield "drive", name, octets
 

@@ -7,15 +7,18 @@ is wrong the conversation goes on all the same, and the next reset puts it right
 
 from meter import (LAST_MILLISECOND, exchanged, random_label_a, random_label_b, random_meter, random_minute,
                    random_octets)
-from wire import (CLASS_2, CLOCK, CLOSE, DATES, EVENT_RECORDS, EVENTS, FCB, IDENTITY, LABEL_A_SPOILS, LABEL_B_SPOILS,
-                  LAST_MINUTE, LONGEST_RUN, MOST_USER_OCTETS, OFFERED_FIXED, OFFERED_VARIABLE, OPEN, PERIODS, RESET,
-                  ROWS, SET_CLOCK, SET_DATES, STATUS, TOTALS, USER_DATA, Request, events_request, fixed,
-                  is_frame, open_request, readings_request, spoil_label_a, spoil_label_b, variable)
+from wire import (ALL_OBJECTS, CLASS_2, CLOCK, CLOSE, DATES, EVENT_RECORDS, EVENTS, FCB, IDENTITY, LABEL_A_SPOILS,
+                  LABEL_B_SPOILS, LAST_MINUTE, LONGEST_RUN, MOST_USER_OCTETS, OBJECT_RANGES, OFFERED_FIXED,
+                  OFFERED_VARIABLE, OPEN, PERIODS, RESET, ROWS, SET_CLOCK, SET_DATES, STATUS, TOTALS, USER_DATA,
+                  Request, events_request, fixed, is_frame, open_request, readings_request, spoil_label_a,
+                  spoil_label_b, variable)
 
 MOST_EVENTS_IN_A_MESSAGE = 27
 ALL_LABEL_B_SPOILS = (*LABEL_A_SPOILS, *LABEL_B_SPOILS)
 UNLISTED_TYPES = (0, 1, 8, 11, 71, 72, 99, 101, 104, 121, 124, 128, 130, 131, 180, 182, 184, 188, 255)
 NEAR_RECORDS = (0, 1, 10, 11, 12, 20, 21, 22, 51, 52, 53, 54, 55, 56, 127, 128, 129, 130, 255)
+WRONG_RANGES = ((0, 6), (0, 0), (0, 1), (0, 7), (1, 7), (6, 7), (7, 7), (7, 6), (2, 1), (4, 3), (6, 1), (6, 5), (1, 0),
+                (1, 255), (255, 6), (255, 255), (129, 134))
 SPANNED = {TOTALS: 21, PERIODS: 11}
 
 
@@ -198,7 +201,8 @@ class Centre:
         labels = random_label_a(self.chance, first), random_label_a(self.chance, last)
         if kind == EVENTS:
             return events_request(point, record, *labels), 2 - (-chosen // MOST_EVENTS_IN_A_MESSAGE)
-        return readings_request(kind, point, *labels), 2 + chosen
+        objects = ALL_OBJECTS if self.often(0.3) else self.chance.choice(OBJECT_RANGES)
+        return readings_request(kind, point, *labels, objects), 2 + chosen
 
     def random_request(self, kind=None):
         return self.request_and_replies(kind or self.chance.choice(tuple(ROWS)))[0]
@@ -246,8 +250,11 @@ class Centre:
         request.record = swapped if self.often(0.3) else self.chance.choice(NEAR_RECORDS)
 
     def spoil_objects(self, request):
+        """A wrong range; now and then any two numbers, which may be a right one."""
+        chance = self.chance
         if len(request.body) == 12:
-            objects = self.chance.choice(((0, 6), (2, 6), (1, 5), (1, 7), (6, 1), (6, 6), (1, 1), (255, 6), (0, 0)))
+            objects = chance.choice((*WRONG_RANGES, (chance.randint(0, 8), chance.randint(0, 8)),
+                                     (chance.randint(0, 8), chance.randint(0, 8)), random_octets(chance, 2)))
             request.body = bytes(objects) + request.body[2:]
 
     def spoil_label(self, request):

@@ -33,6 +33,9 @@ ROWS = {
     CLOSE: (0, 6, 0),
 }
 EVENT_RECORDS = (52, 53, 54, 55, 128, 129)
+# First and last object of 122 and 123: all that may be asked for, and all six.
+OBJECT_RANGES = tuple((first, last) for first in range(1, 7) for last in range(first, 7))
+ALL_OBJECTS = (1, 6)
 
 
 def low_first(number, width):
@@ -146,7 +149,7 @@ def open_request(point, password):
     return Request(OPEN, point, body=low_first(password, 4))
 
 
-def readings_request(kind, point, first, last, objects=(1, 6)):
+def readings_request(kind, point, first, last, objects=ALL_OBJECTS):
     return Request(kind, point, body=bytes(objects) + first + last)
 
 

@@ -1,4 +1,4 @@
-"""Tests written by hand from document 01. Usage: check.py FOLDER-OF-THE-PROGRAMS"""
+"""Tests written by hand from documents 01 and 02. Usage: check.py FOLDER-OF-THE-PROGRAMS"""
 
 import random
 import sys
@@ -616,10 +616,6 @@ def totals():
     ask(label_a(0, 1, 1, 0, 0), label_a(99, 12, 31, 23, 59), *labels_)
     # SU and weekday take no part in the comparison, and are mirrored.
     ask(hx("1E 80 E1 01 01"), hx("1E 00 01 01 01"), labels_[1])
-    span = labels_[0] + labels_[3]
-    for objects_ in (hx("0006"), hx("0206"), hx("0105"), hx("0107"), hx("0601"), hx("0000")):
-        refuse(0x11, objects_ + span)
-        refuse(0x11, objects_ + bytes(10))
     refuse(0x12, b"\1\6" + labels_[1] + labels_[0])
     refuse(0x12, b"\1\6" + label_a(1, 1, 1, 0, 16) + label_a(1, 1, 1, 0, 29))
     refuse(0x12, b"\1\6" + label_a(1, 1, 2, 0, 16) + label_a(99, 1, 1, 0, 0))
@@ -634,6 +630,97 @@ def totals():
     refuse(0x12, b"\1\6" + label_a(1, 1, 1, 1, 0) + label_a(1, 1, 1, 0, 59))
     d.check()
 
+
+# ---- readings by object range (document 02, #101) ---------------------------
+
+# Two readings whose values and qualities all differ; record 21 has them the
+# other way round.
+MORNING = [(-2147483648, 0x80), (2147483647, 0x7F), (-1, 0), (0, 255), (0x01020304, 1), (-2, 2)]
+EVENING = [(0x11, 0xA1), (0x1200, 0xA2), (0x130000, 0xA3), (0x14000000, 0xA4), (-21, 0xA5),
+           (0x16171819, 0xA6)]
+MIDNIGHT, NOON, LATE = (label_a(1, 1, 1, hour, 0) for hour in (0, 12, 18))
+
+
+def two_readings(first, second, values, others, more=()):
+    """An image with these two labels and, behind them, `more` readings of each record."""
+    return image(meter(), point(1, 0x12345678),
+                 reading(1, 11, first, values), reading(1, 11, second, others),
+                 *[reading(1, 11, *one) for one in more],
+                 reading(1, 21, first, others), reading(1, 21, second, values),
+                 *[reading(1, 21, *one) for one in more])
+
+
+# First and last, N, and what a reading of MORNING and one of EVENING carry
+# between header and label.
+CARRIED = [
+    ("01 02", 2, "01 00000080 80  02 FFFFFF7F 7F", "01 11000000 A1  02 00120000 A2"),
+    ("02 05", 4, "02 FFFFFF7F 7F  03 FFFFFFFF 00  04 00000000 FF  05 04030201 01",
+     "02 00120000 A2  03 00001300 A3  04 00000014 A4  05 EBFFFFFF A5"),
+    ("03 03", 1, "03 FFFFFFFF 00", "03 00001300 A3"),
+    ("06 06", 1, "06 FEFFFFFF 02", "06 19181716 A6"),
+    ("01 06", 6, "01 00000080 80  02 FFFFFF7F 7F  03 FFFFFFFF 00  04 00000000 FF  05 04030201 01"
+     " 06 FEFFFFFF 02",
+     "01 11000000 A1  02 00120000 A2  03 00001300 A3  04 00000014 A4  05 EBFFFFFF A5"
+     " 06 19181716 A6"),
+]
+
+# "17 now exactly when first is 0, last is over 6 or first is after last"
+NOT_CARRIED = ["00 06", "00 00", "00 07", "01 07", "06 07", "07 07", "01 FF", "FF FF", "03 02",
+               "06 05", "01 00", "07 06", "FF 01", "81 86"]
+
+WRONG_SPANS = {"no label": bytes(10), "last no label": JAN + bytes(5), "falling": LATE + JAN,
+               "no reading": NOON + NOON}
+
+# Request, record address, reply, and the columns of CARRIED in image order.
+BY_RANGE = ((122, 21, 8, (3, 2)), (123, 11, 11, (2, 3)))
+
+
+def object_ranges():
+    for kind, rec, reply, (first, second) in BY_RANGE:
+        d = Drive(f"{kind} by range", two_readings(JAN, LATE, MORNING, EVENING)).reset().open()
+        for row in CARRIED:
+            ask = request(kind, body=hx(row[0]) + SPAN)
+            d.send(ask, what=row[0])
+            for user in (with_cause(ask, 7),
+                         message(reply, row[1], 5, 1, rec, hx(row[first]) + JAN),
+                         message(reply, row[1], 5, 1, rec, hx(row[second]) + LATE),
+                         with_cause(ask, 10)):
+                d.collect(user, row[0]).again(data(user), f"{row[0]} repeated")
+            d.collect(None)
+            # "its place is unchanged": a right range leaves the labels to be judged ...
+            for what, span in WRONG_SPANS.items():
+                d.refuse(request(kind, body=hx(row[0]) + span), 0x12, f"{row[0]}, {what}")
+        # ... and a wrong one does not, but comes behind the record address.
+        for objects_ in NOT_CARRIED:
+            for what, span in {"right labels": SPAN, **WRONG_SPANS}.items():
+                d.refuse(request(kind, body=hx(objects_) + span), 0x11, f"{objects_}, {what}")
+            d.refuse(request(kind, rec=12, body=hx(objects_) + SPAN), 0x0F, f"{objects_}, record")
+        d.check()
+
+
+def ranges_exchanged():
+    """The range is that of the request that waits, whatever image is lent with a
+    collection and whatever is asked in between."""
+    for kind, rec, reply, (first, second) in BY_RANGE:
+        row = ("04 05", 2, "04 00000000 FF  05 04030201 01", "04 00000014 A4  05 EBFFFFFF A5")
+        ask = request(kind, body=hx(row[0]) + SPAN)
+
+        def give(column, label):
+            return message(reply, row[1], 5, 1, rec, hx(row[column]) + label)
+
+        d = Drive(f"{kind} by range, exchanged", two_readings(JAN, LATE, MORNING, EVENING))
+        d.reset().open().send(ask).collect(with_cause(ask, 7)).collect(give(first, JAN))
+        d.send(request(kind, body=hx("01 01") + SPAN), NACK)
+        # One reading has been given, so the second of the other image follows.
+        d.image(two_readings(MIDNIGHT, NOON, EVENING, MORNING)).collect(give(first, NOON))
+        d.run(variable(0x53 | 0x20 * d.fcb, request(kind, body=hx("06 06") + SPAN)), 0,
+              data(give(first, NOON)), what="a repeat with another range")
+        d.image(two_readings(MIDNIGHT, NOON, MORNING, EVENING, more=[(LATE, EVENING)]))
+        d.collect(give(3, LATE)).collect(with_cause(ask, 10)).collect(None)
+        d.check()
+
+
+# ---- events -----------------------------------------------------------------
 
 def many_events(count, address=1):
     return [event(address, 53, i % 256, 255 - i % 256, label_b(1, 1, 1, 0, i // 60, i % 60, i))
@@ -930,7 +1017,7 @@ def at_random():
 
 for part in (paper_cases, labels, printing, driving, little_by_little, refusals, count_bit,
              messages_accepted, messages_refused, passwords, clock_and_dates, totals,
-             diaries, exchanged, images, at_random):
+             object_ranges, ranges_exchanged, diaries, exchanged, images, at_random):
     before = Tally.checks
     part()
     print(f"{part.__name__}: {Tally.checks - before} checks")

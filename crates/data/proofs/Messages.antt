@@ -1,6 +1,6 @@
 -- The data messages octet by octet: how long each is, and what stands where in those of readings and of events.
 -- By recursion on the objects and on the events, each of one width. Assumes nothing.
-use Prim.Native.Nat.{ℕ, zero, suc, _+_, _-_, _*_, _^_, _≤_, _<_}
+use Prim.Native.Nat.{ℕ, zero, suc, _+_, _-_, _*_, _^_, _<_}
 use mathlib.Core.List.{List, [], _∷_, _++_, append-assoc}
 use mathlib.Core.Path.{_≡_, refl, ap, _∙_}
 use native.Mathlib.Nat.{mul-suc}
@@ -17,7 +17,9 @@ use Rattle.fields.specs.declared.Identity.{Identity}
 use Rattle.fields.specs.declared.Dates.{Dates}
 use Rattle.fields.specs.Parts.{numberAt, readingLabel, valueOf, qualityOf}
 use Rattle.fields.proofs.Parts.{number-small}
+use Rattle.message.specs.declared.ObjectRange.{ObjectRange}
 use Rattle.message.specs.Headers.{headerOctets}
+use Rattle.message.specs.Requests.{objectsMany}
 use Rattle.label.specs.Label.{labelAOctets, labelBOctets}
 use Rattle.data.specs.Messages.{replyHeader, identityReply, clockReply, datesReply, objectOctets, objectsOctets, readingReply, eventOctets, eventsOctets, eventsReply}
 
@@ -79,27 +81,9 @@ objects-at object (suc many) (suc i) r back h =
     rw (append-assoc, further, behind-first 6 (objectOctets object r) (objectsOctets (suc object) many r ++ back) i (object-length object r))
     (objects-at (suc object) many i r back (omega arith))
 
--- the octets of object n in a message
+-- the octets of the i-th object in a message, counted from 0
 abbrev pub objectPart : ℕ → List ℕ → List ℕ
-objectPart n message = take 6 (drop (6 + 6 * (n - 1)) message)
-
-module _ (type : ℕ) (point : PointAddress) (address : ℕ) (r : List ℕ) where
-  pub reading-length : length (readingReply type point address r) ≡ 47
-  unfolding readingReply labelAOctets
-  reading-length = message-length type 6 point address _ ∙ rw (length-append, objects-length)
-
-  pub object-there : (n : ℕ) → 1 ≤ n → n ≤ 6 → objectPart n (readingReply type point address r) ≡ objectOctets n r
-  unfolding readingReply
-  object-there n least most =
-      let number : 1 + (n - 1) ≡ n = omega arith in
-      rw behind-header
-      (objects-at 1 6 (n - 1) r (labelAOctets (readingLabel r)) (omega arith) ∙ ap (λ (k : ℕ). objectOctets k r) number)
-
-  pub label-there : drop 42 (readingReply type point address r) ≡ labelAOctets (readingLabel r)
-  unfolding readingReply
-  label-there =
-      behind-header type 6 point address _ 36
-      ∙ drop-at (objectsOctets 1 6 r) (labelAOctets (readingLabel r)) 36 (objects-length 1 6 r)
+objectPart i message = take 6 (drop (6 + 6 * i) message)
 
 -- the bits of an object's value, and its value from them
 value-bits : (n : ℕ) (r : List ℕ) → Octets r → (unsigned (valueOf n r) < 256 ^ 4) × (signed (unsigned (valueOf n r)) ≡ valueOf n r)
@@ -108,24 +92,43 @@ value-bits n r o =
     let small = number-small 4 (11 + (n - 1) * 5) r o in
     rw (unsigned-signed (numberAt 4 r (11 + (n - 1) * 5)) small) (small, refl)
 
--- object by object: number, value low octet first, quality
-module _ (type : ℕ) (point : PointAddress) (address : ℕ) (r : List ℕ) (n : ℕ) (least : 1 ≤ n) (most : n ≤ 6) where
-  pub object-number : getD (objectPart n (readingReply type point address r)) 0 0 ≡ n
+-- an object's octets: number, value low octet first, quality
+module _ (n : ℕ) (r : List ℕ) where
+  pub object-number : getD (objectOctets n r) 0 0 ≡ n
   unfolding objectOctets
-  object-number = rw (object-there type point address r n least most)
+  object-number = refl
 
-  pub object-quality : getD (objectPart n (readingReply type point address r)) 5 0 ≡ qualityOf n r
+  pub object-quality : getD (objectOctets n r) 5 0 ≡ qualityOf n r
   unfolding objectOctets lowOctets
-  object-quality = rw (object-there type point address r n least most)
+  object-quality = refl
 
-  pub object-bits : Octets r → lowFirst (take 4 (drop 1 (objectPart n (readingReply type point address r)))) ≡ unsigned (valueOf n r)
+  pub object-value : Octets r → signed (lowFirst (take 4 (drop 1 (objectOctets n r)))) ≡ valueOf n r
   unfolding objectOctets
-  object-bits o =
-      rw (object-there type point address r n least most, take-at (lowOctets 4 (unsigned (valueOf n r))) (qualityOf n r ∷ []) 4 (low-length 4 _))
-      (low-number 4 (unsigned (valueOf n r)) (value-bits n r o .0))
+  object-value o =
+      rw (take-at (lowOctets 4 (unsigned (valueOf n r))) (qualityOf n r ∷ []) 4 (low-length 4 _))
+      (ap signed (low-number 4 (unsigned (valueOf n r)) (value-bits n r o .0)) ∙ value-bits n r o .1)
 
-  pub object-value : Octets r → signed (lowFirst (take 4 (drop 1 (objectPart n (readingReply type point address r))))) ≡ valueOf n r
-  object-value o = ap signed (object-bits o) ∙ value-bits n r o .1
+-- a reading's message: so many objects from the first on, and the label behind them
+module _ (type : ℕ) (point : PointAddress) (address : ℕ) (objects : ObjectRange) (r : List ℕ) where
+  pub reading-length : length (readingReply type point address objects r) ≡ 11 + 6 * objectsMany objects
+  unfolding readingReply labelAOctets
+  reading-length =
+      let many = objectsMany objects in
+      message-length type many point address _
+      ∙ omega (arith, length-append (objectsOctets (objects .first) many r) (labelAOctets (readingLabel r)), objects-length (objects .first) many r)
+
+  pub object-there : (i : ℕ) → i < objectsMany objects → objectPart i (readingReply type point address objects r) ≡ objectOctets (objects .first + i) r
+  unfolding readingReply
+  object-there i h =
+      rw behind-header
+      (objects-at (objects .first) (objectsMany objects) i r (labelAOctets (readingLabel r)) h)
+
+  pub label-there : drop (6 + 6 * objectsMany objects) (readingReply type point address objects r) ≡ labelAOctets (readingLabel r)
+  unfolding readingReply
+  label-there =
+      let many = objectsMany objects in
+      behind-header type many point address _ (6 * many)
+      ∙ drop-at (objectsOctets (objects .first) many r) (labelAOctets (readingLabel r)) (6 * many) (objects-length (objects .first) many r)
 
 -- the events, nine octets each
 pub event-length : (r : List ℕ) → length (eventOctets r) ≡ 9

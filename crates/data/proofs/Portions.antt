@@ -1,7 +1,7 @@
 -- What is given next, as the code comes to it: the chosen that are left from a found place on, one reading of them, or events one by one.
 -- By the laws of the choice. Assumes nothing.
 use Prim.Native.Nat.{ℕ, suc, _+_, _≤_, _<_}
-use mathlib.Core.Bool.{true}
+use mathlib.Core.Bool.{true, false}
 use mathlib.Core.List.{List, [], _∷_, _++_, append-assoc, append-nil}
 use mathlib.Core.Path.{_≡_, refl, sym, ap, ap₂, _∙_}
 use native.Mathlib.Omega.{arith}
@@ -27,6 +27,8 @@ use Rattle.octets.specs.declared.Kept.{Kept}
 use Rattle.octets.specs.Keeping.{octetsOf, keptOf}
 use Rattle.octets.specs.Calls.{added}
 use Rattle.octets.proofs.Keeping.{octets-back}
+use Rattle.message.specs.declared.ObjectRange.{ObjectRange}
+use Rattle.message.specs.Requests.{objectsOffered}
 use Rattle.data.specs.declared.Portion.{Portion}
 use Rattle.data.specs.Messages.{replyHeader, readingReply, eventOctets, eventsOctets, eventsReply}
 use Rattle.data.specs.Portions.{portion, readingPortion, eventsPortion, nextReading}
@@ -64,16 +66,26 @@ module _ (span : Span) (image : List ℕ) (n at : ℕ) where
   unfolding chosen
   event-found = kind-found (Event span) image n at 5 (and-left _ _)
 
--- the next reading, or that none is left
-module _ (type : ℕ) (span : Span) (image : List ℕ) (before : ℕ) {found : Found} {m : Kept} (f : found ≡ nthPlace before (placesFrom (Reading span) image 1)) where
-  pub no-reading : found ≡ Nothing → m ≡ keptOf [] → record { message = m; many = 0 } ≡ nextReading type span image before
-  unfolding nextReading readingPortion portion
-  no-reading e g = rw (left-none (Reading span) image before (sym f ∙ e), g)
+-- nothing given
+pub nothing-given : {m : Kept} → m ≡ keptOf [] → record { message = m; many = 0 } ≡ portion [] 0
+unfolding portion
+nothing-given g = rw g
 
-  pub some-reading : (at : ℕ) → found ≡ At at → m ≡ keptOf (readingReply type (span .point) (span .record_address) (recordAt image at))
-      → record { message = m; many = 1 } ≡ nextReading type span image before
-  unfolding nextReading readingPortion portion
-  some-reading at e g = rw (left-some (Reading span) image before at (sym f ∙ e), g)
+-- the next reading with the objects that are asked for, or that none is left, or that they are not offered
+module _ (type : ℕ) (span : Span) (objects : ObjectRange) (image : List ℕ) (before : ℕ) where
+  pub not-offered : {given : Portion} → objectsOffered objects ≡ false → given ≡ portion [] 0 → given ≡ nextReading type span objects image before
+  unfolding nextReading
+  not-offered o g = rw o g
+
+  module _ (o : objectsOffered objects ≡ true) {found : Found} (f : found ≡ nthPlace before (placesFrom (Reading span) image 1)) where
+    pub no-reading : {given : Portion} → found ≡ Nothing → given ≡ portion [] 0 → given ≡ nextReading type span objects image before
+    unfolding nextReading readingPortion
+    no-reading e g = rw (o, left-none (Reading span) image before (sym f ∙ e)) g
+
+    pub some-reading : {m : Kept} (at : ℕ) → found ≡ At at → m ≡ keptOf (readingReply type (span .point) (span .record_address) objects (recordAt image at))
+        → record { message = m; many = 1 } ≡ nextReading type span objects image before
+    unfolding nextReading readingPortion portion
+    some-reading at e g = rw (o, left-some (Reading span) image before at (sym f ∙ e), g)
 
 -- one more event
 events-append : (rs qs : List (List ℕ)) → eventsOctets (rs ++ qs) ≡ eventsOctets rs ++ eventsOctets qs

@@ -1,6 +1,7 @@
 -- What the public contracts of this crate do not allow: two wrong outcomes or more of each.
 -- By computation, at an octet of the message or at its length. Assumes nothing.
-use Prim.Native.Nat.{ℕ, _+_, _/_, _%_, _≤_, _<_}
+use Prim.Native.Nat.{ℕ, _+_, _*_, _/_, _%_, _≤_, _<_}
+use mathlib.Core.Bool.{true, false}
 use mathlib.Core.List.{List, [], _∷_, _++_, reverse}
 use mathlib.Core.Path.{_≡_, refl, sym, ap, _∙_}
 use native.Mathlib.Omega.{arith}
@@ -9,22 +10,26 @@ use denote.Ref.{RefT, now}
 use lib.ListN.{length, getD, take, drop, length-take}
 use Rattle.octets.specs.Numbers.{lowOctets}
 use Rattle.octets.specs.Over.{over}
-use Rattle.octets.specs.Values.{unsigned}
+use Rattle.octets.proofs.Choice.{either}
+use Rattle.octets.proofs.Keeping.{octets-back}
 use Rattle.octets.proofs.Outcome.{RuledOut}
 use Rattle.address.specs.declared.PointAddress.{PointAddress}
 use Rattle.fields.specs.declared.Identity.{Identity}
 use Rattle.fields.specs.declared.Dates.{Dates}
-use Rattle.fields.specs.Parts.{readingLabel, valueOf, qualityOf, eventLabel}
+use Rattle.fields.specs.Parts.{readingLabel, eventLabel}
 use Rattle.choice.specs.declared.Span.{Span}
 use Rattle.choice.specs.declared.Query.the-variants.{Reading, Event}
 use Rattle.choice.specs.Choice.{choice}
 use Rattle.octets.specs.declared.Kept.{Kept}
+use Rattle.message.specs.declared.ObjectRange.{ObjectRange}
 use Rattle.message.specs.Headers.{headerOctets}
-use Rattle.octets.specs.Keeping.{keptOf}
+use Rattle.message.specs.Requests.{objectsOffered, objectsMany}
+use Rattle.octets.specs.Keeping.{octetsOf, keptOf}
 use Rattle.data.specs.declared.Portion.{Portion}
 use Rattle.label.specs.Label.{labelAOctets, labelBOctets}
-use Rattle.data.specs.Messages.{replyHeader, identityReply, clockReply, datesReply, objectOctets, objectsOctets, readingReply, eventOctets, eventsOctets, eventsReply}
+use Rattle.data.specs.Messages.{replyHeader, identityReply, clockReply, datesReply, objectOctets, readingReply, eventOctets, eventsOctets, eventsReply}
 use Rattle.data.specs.Portions.{portion, readingPortion, eventsPortion, nextReading, nextEvents}
+use Rattle.data.proofs.Messages.{objectPart, reading-length, object-there, label-there}
 use Rattle.data.proofs.identity.Reads as identity
 use Rattle.data.proofs.clock.Reads as clock
 use Rattle.data.proofs.dates.Reads as dates
@@ -85,41 +90,56 @@ module _ (κs : Lfts 0) (p : PointAddress) where
   unfolding datesReply labelAOctets a-message
   dates-twice two differ s e = differ (ap (octet 13) e)
 
--- r is the chosen reading that comes next
-module _ (κs : Lfts 1) (image : RefT (List ℕ)) (span : Span) (type before : ℕ) (r : List ℕ) (rs : List (List ℕ)) (wrong : Portion)
-    (next : drop before (choice (Reading span) (now image)) ≡ r ∷ rs) where
-  -- the message that is meant
-  meant : wrong ≡ nextReading type span (now image) before → wrong .message ≡ keptOf (readingReply type (span .point) (span .record_address) r)
-  unfolding nextReading readingPortion portion
-  meant e = ap (λ (g : Portion). g .message) (rw next at e)
+-- r is the chosen reading that comes next, and the objects that are asked for are offered
+module _ (κs : Lfts 1) (image : RefT (List ℕ)) (span : Span) (objects : ObjectRange) (type before : ℕ) (r : List ℕ) (rs : List (List ℕ)) (wrong : Portion)
+    (next : drop before (choice (Reading span) (now image)) ≡ r ∷ rs) (offered : objectsOffered objects ≡ true) where
+  -- the octets that are meant
+  its-reply : List ℕ
+  its-reply = readingReply type (span .point) (span .record_address) objects r
+
+  meant : wrong ≡ nextReading type span objects (now image) before → octetsOf (wrong .message) ≡ its-reply
+  unfolding nextReading readingPortion portion its-reply
+  meant e = ap (λ (g : Portion). octetsOf (g .message)) (rw (offered, next) at e) ∙ octets-back its-reply
+
+  -- a message that differs from the one due in any part
+  reading-other : {A : Type 0} (part : List ℕ → A) → (part (octetsOf (wrong .message)) ≡ part its-reply → ⊥)
+      → RuledOut (reading.Post κs) (image, (span, (objects, (type, (before, tt))))) wrong
+  reading-other part differ s e = differ (ap part (meant e))
 
   -- no reading given where one is left
-  reading-none : wrong .many ≡ 0 → RuledOut (reading.Post κs) (image, (span, (type, (before, tt)))) wrong
+  reading-none : wrong .many ≡ 0 → RuledOut (reading.Post κs) (image, (span, (objects, (type, (before, tt))))) wrong
   unfolding nextReading readingPortion portion
-  reading-none none s e = omega (arith, ap (λ (g : Portion). g .many) (rw next at e))
-
-  -- the first value in the image's octet order, if its lowest and highest octets differ
-  reading-order : octet 7 (wrong .message) ≡ unsigned (valueOf 1 r) / 256 / 256 / 256 % 256
-      → (unsigned (valueOf 1 r) % 256 ≡ unsigned (valueOf 1 r) / 256 / 256 / 256 % 256 → ⊥)
-      → RuledOut (reading.Post κs) (image, (span, (type, (before, tt)))) wrong
-  unfolding readingReply objectsOctets objectOctets a-message
-  reading-order high differ s e = differ (sym (ap (octet 7) (meant e)) ∙ high)
-
-  -- a label that has another minute than the reading's
-  reading-label : (octet 42 (wrong .message) ≡ readingLabel r .minute → ⊥) → RuledOut (reading.Post κs) (image, (span, (type, (before, tt)))) wrong
-  unfolding readingReply objectsOctets objectOctets labelAOctets a-message
-  reading-label differ s e = differ (ap (octet 42) (meant e))
-
-  -- the quality of the second object behind the first, if the two differ
-  reading-quality : octet 11 (wrong .message) ≡ qualityOf 2 r → (qualityOf 1 r ≡ qualityOf 2 r → ⊥)
-      → RuledOut (reading.Post κs) (image, (span, (type, (before, tt)))) wrong
-  unfolding readingReply objectsOctets objectOctets a-message
-  reading-quality second differ s e = differ (sym (ap (octet 11) (meant e)) ∙ second)
+  reading-none none s e = omega (arith, none, ap (λ (g : Portion). g .many) (rw (offered, next) at e))
 
   -- a reading under another type than the one asked for
-  reading-type : (octet 0 (wrong .message) ≡ type → ⊥) → RuledOut (reading.Post κs) (image, (span, (type, (before, tt)))) wrong
-  unfolding readingReply a-message
-  reading-type other s e = other (ap (octet 0) (meant e))
+  reading-type : (getD (octetsOf (wrong .message)) 0 0 ≡ type → ⊥) → RuledOut (reading.Post κs) (image, (span, (objects, (type, (before, tt))))) wrong
+  unfolding its-reply readingReply a-message
+  reading-type = reading-other (λ (m : List ℕ). getD m 0 0)
+
+  -- an N that is not that of the objects, as 6 for 1 to 2
+  reading-count : (getD (octetsOf (wrong .message)) 1 0 ≡ objectsMany objects → ⊥)
+      → RuledOut (reading.Post κs) (image, (span, (objects, (type, (before, tt))))) wrong
+  unfolding its-reply readingReply a-message
+  reading-count = reading-other (λ (m : List ℕ). getD m 1 0)
+
+  -- more or fewer octets than the objects and the label have, as 47 for 1 to 2
+  reading-long : (length (octetsOf (wrong .message)) ≡ 11 + 6 * objectsMany objects → ⊥)
+      → RuledOut (reading.Post κs) (image, (span, (objects, (type, (before, tt))))) wrong
+  unfolding its-reply
+  reading-long differ = reading-other length (λ e. differ (e ∙ reading-length type (span .point) (span .record_address) objects r))
+
+  -- at any place another object than the one due there, by number, value or quality: one early, one late, the image's octet order, another's quality
+  reading-object : (i : ℕ) → i < objectsMany objects → (objectPart i (octetsOf (wrong .message)) ≡ objectOctets (objects .first + i) r → ⊥)
+      → RuledOut (reading.Post κs) (image, (span, (objects, (type, (before, tt))))) wrong
+  unfolding its-reply
+  reading-object i h differ = reading-other (objectPart i) (λ e. differ (e ∙ object-there type (span .point) (span .record_address) objects r i h))
+
+  -- directly behind the objects something else than the reading's label, as where it stands behind six always
+  reading-label : (drop (6 + 6 * objectsMany objects) (octetsOf (wrong .message)) ≡ labelAOctets (readingLabel r) → ⊥)
+      → RuledOut (reading.Post κs) (image, (span, (objects, (type, (before, tt))))) wrong
+  unfolding its-reply
+  reading-label differ =
+      reading-other (drop (6 + 6 * objectsMany objects)) (λ e. differ (e ∙ label-there type (span .point) (span .record_address) objects r))
 
 -- how many events are given
 portion-many : (span : Span) (rs : List (List ℕ)) → eventsPortion span rs .many ≡ length (take 27 rs)
@@ -128,11 +148,21 @@ portion-many span [] = refl
 portion-many span (r ∷ rs) = refl
 
 module _ (κs : Lfts 1) (image : RefT (List ℕ)) (span : Span) (before : ℕ) (wrong : Portion) where
-  -- a reading given where none is left
-  reading-again : (type : ℕ) → drop before (choice (Reading span) (now image)) ≡ [] → 0 < wrong .many
-      → RuledOut (reading.Post κs) (image, (span, (type, (before, tt)))) wrong
+  -- a reading given where none is left, whatever the objects
+  reading-again : (objects : ObjectRange) (type : ℕ) → drop before (choice (Reading span) (now image)) ≡ [] → 0 < wrong .many
+      → RuledOut (reading.Post κs) (image, (span, (objects, (type, (before, tt))))) wrong
   unfolding nextReading readingPortion portion
-  reading-again type none many s e = omega (arith, ap (λ (g : Portion). g .many) (rw none at e))
+  reading-again objects type none many s e =
+      let given : wrong .many ≡ 0 =
+      ap (λ (g : Portion). g .many) (rw none at e)
+      ∙ either (λ (g : Portion). g .many ≡ 0) (objectsOffered objects) {a = portion [] 0} {b = portion [] 0} (λ _. refl) (λ _. refl) in
+      omega (arith, many, given)
+
+  -- a reading given with objects that are not offered
+  reading-refused : (objects : ObjectRange) (type : ℕ) → objectsOffered objects ≡ false → 0 < wrong .many
+      → RuledOut (reading.Post κs) (image, (span, (objects, (type, (before, tt))))) wrong
+  unfolding nextReading portion
+  reading-refused objects type none many s e = omega (arith, many, ap (λ (g : Portion). g .many) (rw none at e))
 
   -- 26 events in a message where 27 or more are left
   events-fewer : 27 ≤ length (drop before (choice (Event span) (now image))) → wrong .many ≡ 26

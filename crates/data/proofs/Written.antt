@@ -27,6 +27,9 @@ use Rattle.octets.specs.Keeping.{keptOf}
 use Rattle.octets.specs.Calls.{added}
 use Rattle.octets.proofs.Keeping.{added-more}
 use Rattle.label.specs.Label.{labelAOctets, labelBOctets}
+use Rattle.message.specs.declared.ObjectRange.{ObjectRange}
+use Rattle.message.specs.Requests.{objectsMany}
+use Rattle.message.proofs.Requests.{Offered}
 use Rattle.data.specs.Messages.{replyHeader, objectOctets, objectsOctets, eventOctets}
 use Rattle.data.proofs.Messages.{header-length, label-length, object-length, objects-length}
 
@@ -63,26 +66,37 @@ one-more-object object (suc many) r =
     let further : object + suc many ≡ suc object + many = omega arith in
     rw (further, append-assoc (objectOctets object r) (objectsOctets (suc object) many r)) (ap (objectOctets object r ++_) (one-more-object (suc object) many r))
 
--- the six objects, from a header of six octets on: none yet, one more, and the label behind the last
-module _ (xs r : List ℕ) (six : length xs ≡ 6) where
-  pub no-object-yet : {m : Kept} → m ≡ keptOf xs → m ≡ keptOf (xs ++ objectsOctets 1 0 r)
+-- the objects that are asked for, behind a header of six octets: none yet, one more, and the label behind the last
+module _ (objects : ObjectRange) (o : Offered objects) (xs r : List ℕ) (six : length xs ≡ 6) where
+  -- those from the first on, up to the one that comes next
+  abbrev pub objectsBefore : ℕ → List ℕ
+  objectsBefore next = objectsOctets (objects .first) (next - objects .first) r
+
+  pub no-object-yet : {m : Kept} → m ≡ keptOf xs → m ≡ keptOf (xs ++ objectsBefore (objects .first))
   unfolding objectsOctets
-  no-object-yet e = rw append-nil e
+  no-object-yet e =
+      let none : objects .first - objects .first ≡ 0 = omega arith in
+      rw (none, append-nil) e
 
-  pub with-object : (object : ℕ) {m m′ : Kept} {part : List ℕ} → 1 ≤ object → object ≤ 6 → m ≡ keptOf (xs ++ objectsOctets 1 (object - 1) r)
-      → m′ ≡ added m part → part ≡ objectOctets object r → m′ ≡ keptOf (xs ++ objectsOctets 1 (object + 1 - 1) r)
+  pub with-object : (object : ℕ) {m m′ : Kept} {part : List ℕ} → objects .first ≤ object → object ≤ objects .last → m ≡ keptOf (xs ++ objectsBefore object)
+      → m′ ≡ added m part → part ≡ objectOctets object r → m′ ≡ keptOf (xs ++ objectsBefore (object + 1))
   with-object object least most e f p =
-      let before : ℕ = object - 1 in
-      let this : 1 + before ≡ object = omega arith in
-      let passed : object + 1 - 1 ≡ suc before = omega arith in
-      rw (passed, one-more-object 1 before r, this)
-      (with-third xs (objectsOctets 1 before r) (objectOctets object r) e f p (omega (arith, objects-length 1 before r, object-length object r)))
+      let before : ℕ = object - objects .first in
+      let this : objects .first + before ≡ object = omega arith in
+      let passed : object + 1 - objects .first ≡ suc before = omega arith in
+      rw (passed, one-more-object (objects .first) before r, this)
+      (with-third xs (objectsBefore object) (objectOctets object r) e f p
+      (omega (arith, six, o .from-one, o .to-six, objects-length (objects .first) before r, object-length object r)))
 
-  pub with-label : (object : ℕ) {m m′ : Kept} {part : List ℕ} → object ≡ 7 → m ≡ keptOf (xs ++ objectsOctets 1 (object - 1) r)
-      → m′ ≡ added m part → part ≡ labelAOctets (readingLabel r) → m′ ≡ keptOf (xs ++ (objectsOctets 1 6 r ++ labelAOctets (readingLabel r)))
-  with-label object seven e f p =
-      let passed : object - 1 ≡ 6 = omega arith in
-      with-third xs (objectsOctets 1 6 r) (labelAOctets (readingLabel r)) (rw passed at e) f p (omega (arith, objects-length 1 6 r, label-length (readingLabel r)))
+  pub with-label : (object : ℕ) {m m′ : Kept} {part : List ℕ} → object ≡ objects .last + 1 → m ≡ keptOf (xs ++ objectsBefore object)
+      → m′ ≡ added m part → part ≡ labelAOctets (readingLabel r)
+      → m′ ≡ keptOf (xs ++ (objectsOctets (objects .first) (objectsMany objects) r ++ labelAOctets (readingLabel r)))
+  unfolding objectsMany
+  with-label object behind e f p =
+      let many : ℕ = objects .last - objects .first + 1 in
+      let passed : object - objects .first ≡ many = omega (arith, behind, o .rising) in
+      with-third xs (objectsOctets (objects .first) many r) (labelAOctets (readingLabel r)) (rw passed at e) f p
+      (omega (arith, six, o .from-one, o .to-six, objects-length (objects .first) many r, label-length (readingLabel r)))
 
 -- the label that stands behind them is that of the reading's key
 pub label-of-key : (image : List ℕ) (at : ℕ) {k : Key} {octets : List ℕ} → kindAt image at ≡ 4 → k ≡ keyAt image at → octets ≡ labelAOctets (k .label .a)

@@ -1,5 +1,5 @@
--- The data messages, octet by octet. Document 01, "Types 8 and 11: ..": lengths 47, 6 + 9 each event, 12, 13, 16; all of cause 5. Numbers are
--- low octet first, labels stand as in the image. Assumes nothing.
+-- The data messages, octet by octet. Document 01, "Types 8 and 11: ..", and document 02, #101: lengths 11 + 6 each object, 6 + 9 each event,
+-- 12, 13, 16; all of cause 5. Numbers are low octet first, labels stand as in the image. Assumes nothing.
 use Prim.Native.Nat.{ℕ, zero, suc}
 use mathlib.Core.List.{List, [], _∷_, _++_}
 use lib.ListN.{length}
@@ -10,7 +10,9 @@ use Rattle.label.specs.Label.{labelAOctets, labelBOctets}
 use Rattle.fields.specs.declared.Identity.{Identity}
 use Rattle.fields.specs.declared.Dates.{Dates}
 use Rattle.fields.specs.Parts.{readingLabel, valueOf, qualityOf, spaOf, spqOf, eventLabel}
+use Rattle.message.specs.declared.ObjectRange.{ObjectRange}
 use Rattle.message.specs.Headers.{headerOctets}
+use Rattle.message.specs.Requests.{objectsMany}
 
 -- type, N, point and record address; the cause is 5
 unfoldable pub replyHeader : ℕ → ℕ → PointAddress → ℕ → List ℕ
@@ -37,9 +39,11 @@ unfoldable pub objectsOctets : ℕ → ℕ → List ℕ → List ℕ
 objectsOctets object zero r = []
 objectsOctets object (suc many) r = objectOctets object r ++ objectsOctets (suc object) many r
 
--- types 8 and 11 (N 6): six objects, label
-unfoldable pub readingReply : ℕ → PointAddress → ℕ → List ℕ → List ℕ
-readingReply type point address r = replyHeader type 6 point address ++ (objectsOctets 1 6 r ++ labelAOctets (readingLabel r))
+-- types 8 and 11 (N = last − first + 1): objects first to last, label
+unfoldable pub readingReply : ℕ → PointAddress → ℕ → ObjectRange → List ℕ → List ℕ
+readingReply type point address objects r =
+    let many = objectsMany objects in
+    replyHeader type many point address ++ (objectsOctets (objects .first) many r ++ labelAOctets (readingLabel r))
 
 -- type 1: of each event SPA, SPQ/SPI octet, time b
 unfoldable pub eventOctets : List ℕ → List ℕ

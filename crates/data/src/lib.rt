@@ -1,5 +1,7 @@
 // The data messages that the card gives: types 1, 8, 11, 71, 72 and 131.
 ghost use Prim.Native.Nat.{_≤_};
+ghost use mathlib.Core.Bool.{true};
+ghost use mathlib.Core.List.{[]};
 ghost use mathlib.Core.Path.{_≡_};
 ghost use lib.ListN.{length, take, drop};
 ghost use Rattle.records.specs.Records.{kindAt, recordAt};
@@ -7,6 +9,7 @@ ghost use Rattle.choice.specs.declared.Query.the-variants.{Event};
 ghost use Rattle.choice.specs.Choice.{choice};
 ghost use Rattle.octets.specs.Keeping.{keptOf, octetsOf};
 ghost use Rattle.octets.specs.Calls.{added};
+ghost use Rattle.message.specs.Requests.{objectsOffered};
 ghost use Rattle.data.specs.Messages.{replyHeader, identityReply, clockReply, datesReply, objectOctets, readingReply, eventOctets, eventsOctets};
 ghost use Rattle.data.specs.Portions.{portion, nextReading, nextEvents};
 use address::PointAddress;
@@ -18,6 +21,7 @@ use fields::EventFound;
 use fields::Identity;
 use fields::ValueFound;
 use message::Header;
+use message::ObjectRange;
 use octets::Kept;
 
 // A message, and how many of the chosen records it has; none, and no octets, when no record is left.
@@ -95,15 +99,17 @@ fn object_octets(image: &[u8], at: usize, object: u8) -> [u8; 6]
     ]
 }
 
-// The reading at a place: what types 8 and 11 share.
-fn reading_at(image: &[u8], at: usize, span: Span, type_id: u8) -> Kept
+// The reading at a place, with the objects that are asked for: what types 8 and 11 share.
+fn reading_at(image: &[u8], at: usize, span: Span, objects: ObjectRange, type_id: u8) -> Kept
     requires { ⌜ kindAt (now image) at ≡ 4 ⌝ }
-    ensures { λ r. ⌜ r ≡ keptOf (readingReply «type_id» (span .point) (span .record_address) (recordAt (now (image .entry)) at)) ⌝ }
+    requires { ⌜ objectsOffered objects ≡ true ⌝ }
+    ensures { λ r. ⌜ r ≡ keptOf (readingReply «type_id» (span .point) (span .record_address) objects (recordAt (now (image .entry)) at)) ⌝ }
 {
     let point = span.point;
-    let mut message = headed(type_id, 6, point, span.record_address);
-    let mut object = 1;
-    while object <= 6 {
+    let many = objects.last - objects.first + 1;
+    let mut message = headed(type_id, many, point, span.record_address);
+    let mut object = objects.first;
+    while object <= objects.last {
         let octets = object_octets(image, at, object);
         message = message.with(&octets);
         object += 1;
@@ -113,20 +119,37 @@ fn reading_at(image: &[u8], at: usize, span: Span, type_id: u8) -> Kept
     message.with(&label)
 }
 
-// Types 8 and 11: of the chosen readings the one after those that are given already.
-pub fn reading(image: &[u8], span: Span, type_id: u8, before: usize) -> Portion
-    ensures { λ r. ⌜ r ≡ nextReading «type_id» span (now (image .entry)) before ⌝ }
+// No octets, and none of the chosen records.
+fn none() -> Portion
+    ensures { λ r. ⌜ r ≡ portion [] 0 ⌝ }
 {
-    let Found::At(at) = choice::find(image, Query::Reading(span), before) else {
-        return Portion {
-            message: Kept::new(),
-            many: 0,
-        };
-    };
     Portion {
-        message: reading_at(image, at, span, type_id),
-        many: 1,
+        message: Kept::new(),
+        many: 0,
     }
+}
+
+// Types 8 and 11: of the chosen readings the one after those that are given already, with the objects that are asked for. Of objects that are not
+// offered nothing is given.
+pub fn reading(
+    image: &[u8],
+    span: Span,
+    objects: ObjectRange,
+    type_id: u8,
+    before: usize,
+) -> Portion
+    ensures { λ r. ⌜ r ≡ nextReading «type_id» span objects (now (image .entry)) before ⌝ }
+{
+    if objects.are_offered() {
+        let Found::At(at) = choice::find(image, Query::Reading(span), before) else {
+            return none();
+        };
+        return Portion {
+            message: reading_at(image, at, span, objects, type_id),
+            many: 1,
+        };
+    }
+    none()
 }
 
 // SPA, SPQ/SPI octet and time b of the event at a place, which is there.

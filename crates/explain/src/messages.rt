@@ -7,6 +7,7 @@ use address::PointAddress;
 use label::LabelA;
 use label::LabelB;
 use message::Header;
+use message::ObjectRange;
 use message::Request;
 
 // The octets of an object (number, value, quality) and of an event (SPA, SPQ and SPI, label b).
@@ -101,11 +102,18 @@ pub(crate) fn range(indent: usize, role: u8, first: LabelA, last: LabelA)
     dated(indent, role + 1, last);
 }
 
+fn objects(objects: ObjectRange) {
+    if objects.are_offered() {
+        return words::objects(0, objects.first, objects.last);
+    }
+    words::objects(1, objects.first, objects.last)
+}
+
 fn readings(indent: usize, request: Request) {
     let first = request.first;
     let last = request.last;
     voice::line(indent);
-    words::objects(request.first_object, request.last_object);
+    objects(request.objects);
     range(indent, 0, first, last);
 }
 

@@ -215,8 +215,15 @@ pub(crate) fn octets(why: u8)
     )
 }
 
-pub(crate) fn objects(first: u8, last: u8) {
-    phrase(b"objects % to %", [first as u64, last as u64, 0, 0, 0, 0])
+// 0 offered, 1 not.
+pub(crate) fn objects(how: u8, first: u8, last: u8)
+    requires { ⌜ how < 2 ⌝ }
+{
+    phrase_of(
+        b"objects % to %;objects % to %, not offered;",
+        how,
+        [first as u64, last as u64, 0, 0, 0, 0],
+    )
 }
 
 // What a label is, on a line of its own.
@@ -366,7 +373,7 @@ pub(crate) fn rule(rule: u8)
     naming(
         b"rule: *",
         [0; 6],
-        b"T or P/N set;type not offered;no session;point not in the image;session of another point;structure octet, octets or cause not as listed;record address not as listed;first object not 1 or last not 6;a label of readings not valid;first label of readings after the last;no reading chosen;a label of events not valid;first label of events after the last;no event chosen;clock not valid;no switch dates in the image;a label to set not valid;wrong password;accepted;",
+        b"T or P/N set;type not offered;no session;point not in the image;session of another point;structure octet, octets or cause not as listed;record address not as listed;first object 0, last object over 6, or first after last;a label of readings not valid;first label of readings after the last;no reading chosen;a label of events not valid;first label of events after the last;no event chosen;clock not valid;no switch dates in the image;a label to set not valid;wrong password;accepted;",
         rule,
     )
 }

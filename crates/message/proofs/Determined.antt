@@ -4,6 +4,7 @@ use Rattle.octets.proofs.Outcome.{OneResult, one-outcome}
 use Rattle.message.proofs.row_of.Reads as row-of
 use Rattle.message.proofs.Header.read.Reads as header-read
 use Rattle.message.proofs.Header.octets.Reads as header-octets
+use Rattle.message.proofs.ObjectRange.are_offered.Reads as are-offered
 use Rattle.message.proofs.Request.read.Reads as request-read
 use Rattle.message.proofs.mirrored.Reads as mirrored
 
@@ -15,6 +16,9 @@ header-read-one κs a r r′ s s′ = one-outcome
 
 header-octets-one : OneResult header-octets.Post
 header-octets-one κs a r r′ s s′ = one-outcome
+
+are-offered-one : OneResult are-offered.Post
+are-offered-one κs a r r′ s s′ = one-outcome
 
 request-read-one : OneResult request-read.Post
 request-read-one κs a r r′ s s′ = one-outcome

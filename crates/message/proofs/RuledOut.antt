@@ -1,7 +1,7 @@
 -- What the public contracts of this crate do not allow: two wrong outcomes or more of each.
 -- By computation, field by field. Assumes nothing.
 use Prim.Native.Nat.{ℕ, _+_, _*_, _/_, _%_, _<_}
-use mathlib.Core.Bool.{true, false}
+use mathlib.Core.Bool.{true, false, false≢true}
 use mathlib.Core.List.{List, [], _∷_}
 use mathlib.Core.Path.{_≡_, sym, ap, _∙_}
 use native.Mathlib.Omega.{arith}
@@ -11,6 +11,7 @@ use Rattle.octets.specs.Numbers.{lowFirst, lowOctets}
 use Rattle.octets.proofs.Outcome.{RuledOut, Place, lent, never}
 use Rattle.label.specs.Label.{labelAAt, labelBAt}
 use Rattle.message.specs.declared.Header.{Header}
+use Rattle.message.specs.declared.ObjectRange.{ObjectRange}
 use Rattle.message.specs.declared.Request.{Request}
 use Rattle.octets.specs.declared.Kept.{Kept}
 use Rattle.message.specs.declared.Addresses.the-variants.{Only}
@@ -24,7 +25,9 @@ use Rattle.message.specs.Table.{row, table, rowIn}
 use Rattle.message.proofs.row_of.Reads as row-of
 use Rattle.message.proofs.Header.read.Reads as header-read
 use Rattle.message.proofs.Header.octets.Reads as header-octets
+use Rattle.message.proofs.ObjectRange.are_offered.Reads as are-offered
 use Rattle.message.proofs.Request.read.Reads as request-read
+use Rattle.message.proofs.Requests.{Offered, offered-so, so-offered}
 use Rattle.message.proofs.mirrored.Reads as mirrored
 
 -- a header by its octets
@@ -105,6 +108,23 @@ module _ (κs : Lfts 0) (type structure cause point address : ℕ) where
   unfolding headerOctets lowOctets
   header-octets-swapped n s p = n (cc)
 
+module _ (κs : Lfts 0) (objects : ObjectRange) where
+  -- object 0 taken
+  are-offered-zero : objects .first ≡ 0 → RuledOut (are-offered.Post κs) (objects, tt) true
+  are-offered-zero zero s p = omega (arith, zero, offered-so objects (sym p) .from-one)
+
+  -- object 7 taken, or one behind it
+  are-offered-seven : 6 < objects .last → RuledOut (are-offered.Post κs) (objects, tt) true
+  are-offered-seven over s p = omega (arith, over, offered-so objects (sym p) .to-six)
+
+  -- the first object after the last taken
+  are-offered-falling : objects .last < objects .first → RuledOut (are-offered.Post κs) (objects, tt) true
+  are-offered-falling falling s p = omega (arith, falling, offered-so objects (sym p) .rising)
+
+  -- objects refused that a reading has: one alone, some of them, or all six
+  are-offered-refused : Offered objects → RuledOut (are-offered.Post κs) (objects, tt) false
+  are-offered-refused o s p = false≢true (p ∙ so-offered objects o)
+
 -- a request of any header, with four octets and more behind it, and any answer
 module _ (κs : Lfts 1) (x : Place) (type structure cause low high address a b c d : ℕ) (behind : List ℕ) (wrong : Request) where
   -- its octets
@@ -117,14 +137,14 @@ module _ (κs : Lfts 1) (x : Place) (type structure cause low high address a b c
   request-read-type other s p = other (ap (λ (r : Request). r .header .«type_id») p)
 
   -- the last object taken for the first, whatever the request, if they differ
-  request-read-object : (a ≡ b → ⊥) → wrong .«first_object» ≡ b → RuledOut (request-read.Post κs) (lent x asked, tt) wrong
+  request-read-object : (a ≡ b → ⊥) → wrong .objects .first ≡ b → RuledOut (request-read.Post κs) (lent x asked, tt) wrong
   unfolding requestOf
-  request-read-object differ last s p = differ (sym (ap (λ (r : Request). r .«first_object») p) ∙ last)
+  request-read-object differ last s p = differ (sym (ap (λ (r : Request). r .objects .first) p) ∙ last)
 
   -- the first octet of the labels taken for the last object, if they differ
-  request-read-late : (b ≡ c → ⊥) → wrong .«last_object» ≡ c → RuledOut (request-read.Post κs) (lent x asked, tt) wrong
+  request-read-late : (b ≡ c → ⊥) → wrong .objects .last ≡ c → RuledOut (request-read.Post κs) (lent x asked, tt) wrong
   unfolding requestOf
-  request-read-late differ late s p = differ (sym (ap (λ (r : Request). r .«last_object») p) ∙ late)
+  request-read-late differ late s p = differ (sym (ap (λ (r : Request). r .objects .last) p) ∙ late)
 
   -- the two octets of seconds and milliseconds exchanged, if they differ
   request-read-time : (a ≡ b → ⊥) → wrong .time .low ≡ b → RuledOut (request-read.Post κs) (lent x asked, tt) wrong

@@ -7,7 +7,7 @@ ghost use Prim.Native.Nat.{_%_, _≤_};
 ghost use mathlib.Core.Path.{_≡_};
 ghost use Rattle.label.specs.Label.{labelAAt};
 ghost use Rattle.message.specs.Headers.{tOf, causeOctet, headerOf, headerOctets};
-ghost use Rattle.message.specs.Requests.{asksReadings, labelsFrom, requestOf};
+ghost use Rattle.message.specs.Requests.{objectsOffered, asksReadings, labelsFrom, requestOf};
 ghost use Rattle.message.specs.Table.{table, rowIn};
 ghost use Rattle.message.specs.Mirror.{mirror, pnBit, mirrorOf};
 
@@ -20,12 +20,17 @@ pub struct Header {
     pub record_address: u8,
 }
 
+// The objects of a reading that a request asks for, by their numbers: from the first to the last.
+pub struct ObjectRange {
+    pub first: u8,
+    pub last: u8,
+}
+
 // A request, read once from its octets. What is not there counts as 0.
 pub struct Request {
     pub header: Header,
     pub octets: usize,
-    pub first_object: u8,
-    pub last_object: u8,
+    pub objects: ObjectRange,
     pub first: LabelA,
     pub last: LabelA,
     pub time: LabelB,
@@ -203,6 +208,21 @@ fn password_of(m: &[u8]) -> u32
     )
 }
 
+impl ObjectRange {
+    // A reading has the objects 1 to 6, and any of them that follow on each other may be asked for.
+    pub fn are_offered(self) -> bool
+        ensures { λ r. ⌜ r ≡ objectsOffered self ⌝ }
+    {
+        if self.first < 1 {
+            return false;
+        }
+        if self.last < self.first {
+            return false;
+        }
+        self.last <= 6
+    }
+}
+
 impl Request {
     pub fn read(m: &[u8]) -> Request
         ensures { λ r. ⌜ r ≡ requestOf (now (m .entry)) ⌝ }
@@ -212,8 +232,10 @@ impl Request {
         Request {
             header,
             octets: m.len(),
-            first_object: octets::octet_at(m, 6),
-            last_object: octets::octet_at(m, 7),
+            objects: ObjectRange {
+                first: octets::octet_at(m, 6),
+                last: octets::octet_at(m, 7),
+            },
             first: label_at(m, labels),
             last: label_at(m, labels + 5),
             time: LabelB::read(octets::part(m, 6, 7)),

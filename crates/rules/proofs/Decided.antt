@@ -5,10 +5,9 @@ use mathlib.Core.Bool.{Bool, true, false, not, _&&_, _||_, and-false, or-false, 
 use mathlib.Core.List.{List, [], _∷_, _++_}
 use mathlib.Core.Path.{_≡_, refl, sym, ap, _∙_}
 use native.Mathlib.Omega.{arith}
-use denote.Enum.Declared.{tagOf}
 use lib.Dec.{eqb, leb}
 use borrow.Author.Tests.{eq-eqb, ne-eqb, eqb-true, leb-true}
-use Rattle.octets.specs.First.{When}
+use Rattle.octets.specs.First.{When, firstOf_else_}
 use Rattle.octets.proofs.Choice.{refuted, flipped, not-both}
 use Rattle.octets.proofs.Conditions.{and-left, and-right}
 use Rattle.octets.proofs.First.{Gives, none, here, later, first-gives}
@@ -16,20 +15,17 @@ use Rattle.address.specs.declared.PointAddress.{PointAddress}
 use Rattle.message.specs.declared.Request.{Request}
 use Rattle.message.specs.declared.Row.{Row}
 use Rattle.message.specs.declared.RowFound.the-variants as row
-use Rattle.message.specs.Requests.{asksReadings}
+use Rattle.message.specs.Requests.{objectsOffered, asksReadings}
 use Rattle.message.specs.Table.{table, rowIn}
 use Rattle.fields.specs.declared.PointFound.the-variants as point
 use Rattle.fields.specs.Answers.{pointFound, datesFound}
-use Rattle.rules.proofs.Rule.{the-type}
+use Rattle.rules.proofs.Rules.{place, only-objects}
 use Rattle.rules.specs.declared.Session.{Session}
 use Rattle.rules.specs.declared.Session.the-variants.{Closed, Open}
 use Rattle.rules.specs.declared.Rule.{Rule}
-use Rattle.rules.specs.declared.Rule.the-variants.{NoSession, OtherSession, Shape, NoDates, WrongPassword, Accepted}
+use Rattle.rules.specs.declared.Rule.the-variants.{NoSession, OtherSession, Shape, Objects, NoDates, WrongPassword, Accepted}
+use Rattle.rules.specs.Rules.{causeBy}
 use Rattle.rules.specs.Decide.{marked, isClosed, isOther, shaped, addressed, dated, rules, typeRules, byType, decide}
-
--- a rule's place in document 01's order, that in which the rules are declared
-abbrev pub place : Rule → ℕ
-place rule = tagOf the-type rule
 
 -- whether a rule applies: one of the tests that give it holds
 abbrev pub applies : Rule → List (When Rule) → Bool
@@ -131,6 +127,25 @@ module _ (session : Session) (image clock : List ℕ) (r : Request) where
       let not-183 : not (eqb (r .header .«type_id») 183) ≡ true = ap not (ne-eqb (r .header .«type_id») 183 other) in
       open-for session (r .header .point) (fails-first (isClosed session) _ not-183 (passed last NoSession (omega arith)))
       (fails-first (isOther session (r .header .point)) _ not-183 (passed last OtherSession (omega arith)))
+
+  -- a request for readings is accepted only for objects that are offered
+  pub accepted-offered : given ≡ Accepted → asksReadings (r .header .«type_id») ≡ true → objectsOffered (r .objects) ≡ true
+  accepted-offered last asks =
+      let so : (asksReadings (r .header .«type_id») && not (objectsOffered (r .objects))) ≡ false = sym (or-false _) ∙ passed last Objects (omega arith) in
+      flipped _ _ (rw asks at so)
+
+  -- cause 17 is for such a request with objects that are not offered, and for no other
+  pub objects-only : causeBy given ≡ 17 → (asksReadings (r .header .«type_id») ≡ true) × (objectsOffered (r .objects) ≡ false)
+  objects-only e =
+      let seventh : place given ≡ 7 = only-objects given e in
+      let so : (asksReadings (r .header .«type_id») && not (objectsOffered (r .objects))) ≡ true =
+      sym (or-false _) ∙ (rw seventh at (holds-of given (omega (arith, seventh)) refl)) in
+      (and-left _ _ so, flipped _ _ (and-right (asksReadings (r .header .«type_id»)) _ so))
+
+  -- and it gets 17, unless a rule of all messages applies before
+  pub objects-refused : asksReadings (r .header .«type_id») ≡ true → objectsOffered (r .objects) ≡ false → given ≡ (firstOf rules session image r else Objects)
+  unfolding decide byType
+  objects-refused asks e = rw (asks, e)
 
   -- a 185 is accepted only where the image has dates
   pub accepted-dated : given ≡ Accepted → r .header .«type_id» ≡ 185 → dated (datesFound image) ≡ true

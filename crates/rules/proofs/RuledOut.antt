@@ -19,7 +19,7 @@ use Rattle.message.specs.declared.Deed.{Deed}
 use Rattle.message.specs.declared.Deed.the-variants.{Refused, ShutOut}
 use Rattle.message.specs.declared.Header.{Header}
 use Rattle.message.specs.declared.Request.{Request}
-use Rattle.message.specs.Requests.{asksReadings}
+use Rattle.message.specs.Requests.{objectsOffered, asksReadings}
 use Rattle.message.specs.Table.{table, rowIn}
 use Rattle.fields.specs.declared.Point.{Point}
 use Rattle.fields.specs.declared.PointFound.the-variants as point
@@ -33,14 +33,14 @@ use Rattle.rules.specs.declared.Session.the-variants.{Closed, Open}
 use Rattle.rules.specs.declared.Rule.{Rule}
 use Rattle.rules.specs.declared.Rule.the-variants.{Marked, UnknownType, NoSession, UnknownPoint, OtherSession, Shape, Address, Objects, ReadingLabel, ReadingRange, NoReading, NoEvent, ClockUnset, NoDates, TimeLabel, WrongPassword, Accepted}
 use Rattle.rules.specs.Rules.{causeBy}
-use Rattle.rules.specs.Decide.{marked, listed, shaped, addressed, objectsRight, labelsValid, firstAfterLast, spanOf, noneIn}
+use Rattle.rules.specs.Decide.{marked, listed, shaped, addressed, labelsValid, firstAfterLast, spanOf, noneIn}
 use Rattle.rules.proofs.decide.Reads as decide
 use Rattle.rules.proofs.span_of.Reads as span-of
 use Rattle.rules.proofs.Rule.cause.Reads as rule-cause
 use Rattle.rules.proofs.Rule.pn.Reads as rule-pn
 use Rattle.rules.proofs.Rule.deed.Reads as rule-deed
-use Rattle.rules.proofs.Rules.{only-seven}
-use Rattle.rules.proofs.Decided.{place, applies, allRules, past, holds-of, opened}
+use Rattle.rules.proofs.Rules.{place, only-seven}
+use Rattle.rules.proofs.Decided.{applies, allRules, past, holds-of, opened}
 
 module _ (κs : Lfts 1) (image : RefT (List ℕ)) (clock : List ℕ) (r : Request) (session : Session) where
   -- the header and the type of the request
@@ -54,6 +54,11 @@ module _ (κs : Lfts 1) (image : RefT (List ℕ)) (clock : List ℕ) (r : Reques
   decide-behind : (rule wrong : Rule) → applies rule (allRules session (now image) clock r) ≡ true → place rule < place wrong
       → RuledOut (decide.Post κs) (session, (image, (clock, (r, tt)))) wrong
   decide-behind rule wrong a behind s = past session (now image) clock r rule wrong a behind
+
+  -- any rule that does not apply
+  decide-idle : (rule : Rule) → place rule < 18 → applies rule (allRules session (now image) clock r) ≡ false
+      → RuledOut (decide.Post κs) (session, (image, (clock, (r, tt)))) rule
+  decide-idle rule refusal idle s p = not-both idle (holds-of session (now image) clock r rule refusal (sym p))
 
   -- any rule but the first, or none, given to a message with T or P/N set
   decide-marked : (rule : Rule) → 0 < place rule → marked (head .cause) ≡ true → RuledOut (decide.Post κs) (session, (image, (clock, (r, tt)))) rule
@@ -104,16 +109,20 @@ module _ (κs : Lfts 1) (image : RefT (List ℕ)) (clock : List ℕ) (r : Reques
       → RuledOut (decide.Post κs) (session, (image, (clock, (r, tt)))) Accepted
   decide-record e = decide-behind Address Accepted (rw e) (omega arith)
 
-  -- 17 passed over: a 122 or a 123 accepted with objects other than 1 to 6
-  decide-objects : asksReadings type ≡ true → objectsRight r ≡ false
+  -- 17 passed over: a 122 or a 123 accepted with objects that are not offered
+  decide-objects : asksReadings type ≡ true → objectsOffered (r .objects) ≡ false
       → RuledOut (decide.Post κs) (session, (image, (clock, (r, tt)))) Accepted
   decide-objects asks e = decide-behind Objects Accepted (rw (asks, e)) (omega arith)
 
-  -- the labels looked at before the objects: 18 for a 122 or a 123 whose last object is 5
-  decide-labels-first : asksReadings type ≡ true → r .«last_object» ≡ 5
+  -- the labels looked at before the objects: 18 for a 122 or a 123 with objects that are not offered
+  decide-labels-first : asksReadings type ≡ true → objectsOffered (r .objects) ≡ false
       → RuledOut (decide.Post κs) (session, (image, (clock, (r, tt)))) ReadingLabel
-  unfolding objectsRight
-  decide-labels-first asks e = decide-behind Objects ReadingLabel (rw (asks, e, and-false)) (omega arith)
+  decide-labels-first asks e = decide-behind Objects ReadingLabel (rw (asks, e)) (omega arith)
+
+  -- 17 for objects that are offered, as for 1 to 2
+  decide-offered : objectsOffered (r .objects) ≡ true
+      → RuledOut (decide.Post κs) (session, (image, (clock, (r, tt)))) Objects
+  decide-offered e = decide-idle Objects (omega arith) (rw (e, and-false))
 
   -- a 122 or a 123 accepted with a label that is not valid
   decide-labels : asksReadings type ≡ true → labelsValid r ≡ false
@@ -128,9 +137,7 @@ module _ (κs : Lfts 1) (image : RefT (List ℕ)) (clock : List ℕ) (r : Reques
   -- labels compared the other way: a request refused for their order whose first label does not lie after its last
   decide-in-order : firstAfterLast r ≡ false
       → RuledOut (decide.Post κs) (session, (image, (clock, (r, tt)))) ReadingRange
-  decide-in-order e s p =
-      let idle : applies ReadingRange (allRules session (now image) clock r) ≡ false = rw (e, and-false) in
-      not-both idle (holds-of session (now image) clock r ReadingRange (omega arith) (sym p))
+  decide-in-order e = decide-idle ReadingRange (omega arith) (rw (e, and-false))
 
   -- a 122 or a 123 accepted where no reading is chosen
   decide-no-reading : asksReadings type ≡ true → choice (Reading (spanOf r)) (now image) ≡ []

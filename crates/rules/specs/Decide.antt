@@ -1,4 +1,4 @@
--- The first rule that applies to a message. Document 01, "First that applies", one line a rule, in its order.
+-- The first rule that applies to a message. Document 01, "First that applies", one line a rule, in its order; 17 as document 02, #101, has it.
 -- Assumes nothing.
 use Prim.Native.Nat.{ℕ}
 use mathlib.Core.Bool.{Bool, true, false, not, _&&_, _||_}
@@ -16,7 +16,7 @@ use Rattle.message.specs.declared.Row.{Row}
 use Rattle.message.specs.declared.RowFound.{RowFound}
 use Rattle.message.specs.declared.RowFound.the-variants as row
 use Rattle.message.specs.Headers.{tOf, pnOf, causeOf}
-use Rattle.message.specs.Requests.{asksReadings}
+use Rattle.message.specs.Requests.{objectsOffered, asksReadings}
 use Rattle.message.specs.Table.{table, rowIn}
 use Rattle.fields.specs.declared.PointFound.{PointFound}
 use Rattle.fields.specs.declared.PointFound.the-variants as point
@@ -74,10 +74,6 @@ abbrev pub addressed : RowFound → ℕ → Bool
 addressed (row.Is w) address = addressedAs (w .addresses) address
 addressed row.Nothing address = false
 
--- objects 1 to 6
-unfoldable pub objectsRight : Request → Bool
-objectsRight r = eqb (r .«first_object») 1 && eqb (r .«last_object») 6
-
 -- both labels valid; first after last
 unfoldable pub labelsValid : Request → Bool
 labelsValid r = validA (r .first) && validA (r .last)
@@ -120,7 +116,7 @@ rules session image r =
 abbrev pub typeRules : List ℕ → List ℕ → Request → List (When Rule)
 typeRules image clock r =
     let type = r .header .«type_id» in
-    asksReadings type && not (objectsRight r) ⇒ Objects ▸
+    asksReadings type && not (objectsOffered (r .objects)) ⇒ Objects ▸
     asksReadings type && not (labelsValid r) ⇒ ReadingLabel ▸
     asksReadings type && firstAfterLast r ⇒ ReadingRange ▸
     asksReadings type && noneIn (Reading (spanOf r)) image ⇒ NoReading ▸

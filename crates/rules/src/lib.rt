@@ -4,12 +4,13 @@ ghost use mathlib.Core.Path.{_≡_};
 ghost use lib.Dec.{eqb};
 ghost use Rattle.octets.specs.Choice.{if_then_else_};
 ghost use Rattle.message.specs.declared.RowFound.the-variants as found;
+ghost use Rattle.message.specs.Requests.{objectsOffered};
 ghost use Rattle.message.specs.Table.{table, rowIn};
 ghost use Rattle.rules.specs.declared.Rule.the-variants.{Shape, Address, Objects, ReadingLabel, ReadingRange, NoReading, NoDates, TimeLabel, Accepted};
 ghost use Rattle.choice.specs.declared.Query.the-variants.{Reading};
 ghost use Rattle.fields.specs.Answers.{datesFound};
 ghost use Rattle.rules.specs.Rules.{causeBy, pnBy, deedBy};
-ghost use Rattle.rules.specs.Decide.{marked, isClosed, known, isOther, shapedAs, addressedAs, objectsRight, labelsValid, firstAfterLast, spanOf, noneIn, dated, opens, byType, decide};
+ghost use Rattle.rules.specs.Decide.{marked, isClosed, known, isOther, shapedAs, addressedAs, labelsValid, firstAfterLast, spanOf, noneIn, dated, opens, byType, decide};
 use address::PointAddress;
 use choice::Found;
 use choice::Query;
@@ -184,15 +185,6 @@ fn is_addressed(addresses: Addresses, address: u8) -> bool
     }
 }
 
-fn are_objects_right(request: Request) -> bool
-    ensures { λ r. ⌜ r ≡ objectsRight request ⌝ }
-{
-    if request.first_object == 1 {
-        return request.last_object == 6;
-    }
-    false
-}
-
 fn are_labels_valid(request: Request) -> bool
     ensures { λ r. ⌜ r ≡ labelsValid request ⌝ }
 {
@@ -270,9 +262,10 @@ fn ranged(
 }
 
 fn for_readings(image: &[u8], request: Request) -> Rule
-    ensures { λ r. ⌜ r ≡ (if not (objectsRight request) then Objects else if not (labelsValid request) then ReadingLabel else if firstAfterLast request then ReadingRange else if noneIn (Reading (spanOf request)) (now (image .entry)) then NoReading else Accepted) ⌝ }
+    ensures { λ r. ⌜ r ≡ (if not (objectsOffered (request .objects)) then Objects else if not (labelsValid request) then ReadingLabel else if firstAfterLast request then ReadingRange else if noneIn (Reading (spanOf request)) (now (image .entry)) then NoReading else Accepted) ⌝ }
 {
-    if are_objects_right(request) {
+    let objects = request.objects;
+    if objects.are_offered() {
         return ranged(
             image,
             request,

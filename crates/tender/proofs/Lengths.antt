@@ -22,7 +22,10 @@ use Rattle.message.specs.Mirror.{mirrorOf}
 use Rattle.message.specs.Table.{table, rowIn}
 use Rattle.message.specs.declared.Deed.{Deed}
 use Rattle.message.specs.declared.Deed.the-variants.{Refused, ShutOut, Opens, Closes, Gives71, Gives72, Gives131, GivesData, SetsClock, SetsDates}
+use Rattle.message.specs.declared.ObjectRange.{ObjectRange}
 use Rattle.message.specs.declared.Request.{Request}
+use Rattle.message.specs.Requests.{objectsOffered, objectsMany}
+use Rattle.message.proofs.Requests.{offered-so, many-most}
 use Rattle.rules.specs.Decide.{spanOf, decide}
 use Rattle.rules.specs.declared.Rule.{Rule}
 use Rattle.rules.specs.declared.Session.{Session}
@@ -60,10 +63,18 @@ unfolding nothingPending keptOf
 nothing-kept = record { request = omega arith; clock = refl }
 
 -- data: one reading, or up to 27 events
-reading-short : (type : ℕ) (span : Span) (rs : List (List ℕ)) → Short (readingPortion type span rs .message)
+reading-short : (type : ℕ) (span : Span) (objects : ObjectRange) → objectsMany objects ≤ 6 → (rs : List (List ℕ))
+    → Short (readingPortion type span objects rs .message)
 unfolding readingPortion portion
-reading-short type span [] = of-octets [] (omega arith)
-reading-short type span (r ∷ rs) = of-octets _ (omega (arith, reading-length type (span .point) (span .record_address) r))
+reading-short type span objects few [] = of-octets [] (omega arith)
+reading-short type span objects few (r ∷ rs) = of-octets _ (omega (arith, few, reading-length type (span .point) (span .record_address) objects r))
+
+reading-next : (type : ℕ) (span : Span) (objects : ObjectRange) (image : List ℕ) (before : ℕ) → Short (nextReading type span objects image before .message)
+unfolding nextReading portion
+reading-next type span objects image before =
+    either (λ (some : Portion). Short (some .message)) (objectsOffered objects)
+    (λ taken. reading-short type span objects (many-most objects (offered-so objects taken)) (drop before (choice (Reading span) image)))
+    (λ _. of-octets [] (omega arith))
 
 events-short : (span : Span) (rs : List (List ℕ)) → Short (eventsPortion span rs .message)
 unfolding eventsPortion portion
@@ -74,12 +85,12 @@ events-short span (r ∷ rs) =
 
 module _ (request : Kept) (short : Short request) where
   data-short : (image : List ℕ) (before : ℕ) → Short (dataFrom request image before .message)
-  unfolding dataFrom nextReading nextEvents
+  unfolding dataFrom nextEvents
   data-short image before =
       let r = asked request in
       either (λ (some : Portion). Short (some .message)) (eqb (r .header .«type_id») 102)
       (λ _. events-short (spanOf r) (drop before (choice (Event (spanOf r)) image)))
-      (λ _. reading-short (readingType (r .header .«type_id»)) (spanOf r) (drop before (choice (Reading (spanOf r)) image)))
+      (λ _. reading-next (readingType (r .header .«type_id»)) (spanOf r) (r .objects) image before)
 
   mirror-short : (pn : Bool) (cause : ℕ) → GivenShort (mirrorWith request pn cause)
   unfolding mirrorWith lastly firstly mirrorOf

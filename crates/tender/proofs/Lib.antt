@@ -16,5 +16,6 @@ pub mod Examples
 pub mod Worked
 pub mod Noisy
 pub mod Cases
+pub mod Ranges
 pub mod Wrong
 pub mod Unruly

@@ -13,6 +13,7 @@ use Rattle.history.specs.History.{Each}
 use Rattle.message.specs.declared.Deed.{Deed}
 use Rattle.message.specs.declared.Deed.the-variants.{Gives71, Gives131, GivesData}
 use Rattle.message.specs.Mirror.{pnBit, mirrorOf}
+use Rattle.message.specs.Requests.{asksReadings}
 use Rattle.message.specs.Table.{table, rowIn}
 use Rattle.fields.specs.declared.IdentityFound.{IdentityFound}
 use Rattle.fields.specs.declared.IdentityFound.the-variants as head
@@ -30,9 +31,8 @@ use Rattle.rules.specs.declared.Rule.the-variants.{Accepted}
 use Rattle.rules.specs.Rules.{causeBy, pnBy}
 use Rattle.rules.specs.Decide.{dated, decide}
 use Rattle.rules.proofs.Rules.{only-seven, cause-small}
-use Rattle.rules.proofs.Decided.{accepted-dated}
+use Rattle.rules.proofs.Decided.{accepted-offered, accepted-dated}
 use Rattle.data.specs.Portions.{nextReading}
-use Rattle.data.proofs.Messages.{object-number, object-value, object-quality}
 use Rattle.deeds.specs.declared.Waiting.{Waiting}
 use Rattle.deeds.specs.declared.Pending.{Pending}
 use Rattle.deeds.specs.Deeds.{deedOf, mirrorBy, doneBy, carriedOut}
@@ -40,7 +40,7 @@ use Rattle.deeds.proofs.Deeds.{refused-mirror}
 use Rattle.waiting.specs.NextReply.{firstly, lastly, readingType, mirrorWith, clockFrom, dataFrom, nextBy, nextOf}
 use Rattle.waiting.specs.Collected.{messagesCollected, inGroups, eventsMessage, readingMessage}
 use Rattle.waiting.proofs.Collected.{nothing-more, events-collected, events-number, readings-collected}
-use Rattle.tender.specs.Rules.{requestIn, identityOf, datesOf, eventsFor, readingsFor, betweenMirrors, spanIn, WaitingRow, waitingRows, WaitingReplies, OneMirror, ChosenAlone, ObjectN}
+use Rattle.tender.specs.Rules.{requestIn, identityOf, datesOf, eventsFor, readingsFor, betweenMirrors, spanIn, WaitingRow, waitingRows, WaitingReplies, OneMirror, ChosenAlone}
 
 -- what is given last is one message, and nothing more
 once : (pending : Pending) (image : List ℕ) (message : Kept) → nextOf pending image ≡ lastly message → (turns : ℕ) → 1 ≤ turns
@@ -108,15 +108,16 @@ module _ (session : Session) (image clock : List ℕ) (request : Kept) (first : 
       ))
 
   -- mirror 7, readings, mirror 10
-  readings-row : (type : ℕ) → (type ≡ 102 → ⊥) → requestIn request .header .«type_id» ≡ type
+  readings-row : (type : ℕ) → (type ≡ 102 → ⊥) → asksReadings type ≡ true → requestIn request .header .«type_id» ≡ type
       → Collected (waitingBy GivesData) (betweenMirrors request (readingsFor (readingType type) image request))
-  readings-row type other e turns enough =
-      readings-collected (waitingBy GivesData) image refl (λ z. other (sym e ∙ z)) turns
+  readings-row type other asks e turns enough =
+      readings-collected (waitingBy GivesData) image refl (λ z. other (sym e ∙ z))
+      (accepted-offered session image clock (requestIn request) first (rw e asks)) turns
       (omega (
         arith,
         enough,
         between-length request (readingsFor (readingType type) image request),
-        length-map (choice (Reading (spanIn request)) image) (readingMessage (readingType type) (spanIn request)),
+        length-map (choice (Reading (spanIn request)) image) (readingMessage (readingType type) (spanIn request) (requestIn request .objects)),
       ))
       ∙ ap (λ (k : ℕ). betweenMirrors request (readingsFor (readingType k) image request)) e
 
@@ -124,13 +125,13 @@ module _ (session : Session) (image clock : List ℕ) (request : Kept) (first : 
       → Each
       (λ (w : WaitingRow). requestIn request .header .«type_id» ≡ w .type → Collected (carriedOut session image clock request .pending) (w .messages))
       (waitingRows image clock request)
-  unfolding table rowIn nextOf mirrorWith readingType clockFrom
+  unfolding table rowIn asksReadings nextOf mirrorWith readingType clockFrom
   rows sound =
       of-row 100 (λ e. identity-collected (identityFound image) refl (head-there image sound))
       and of-row 102 events-row
       and of-row 103 (λ e. once _ image _ refl)
-      and of-row 122 (readings-row 122 (λ z. omega arith))
-      and of-row 123 (readings-row 123 (λ z. omega arith))
+      and of-row 122 (readings-row 122 (λ z. omega arith) refl)
+      and of-row 123 (readings-row 123 (λ z. omega arith) refl)
       and of-row 181 (λ e. once _ image _ refl)
       and of-row 183 (λ e. once _ image _ refl)
       and of-row 185 (λ e. dates-collected (datesFound image) refl (accepted-dated session image clock (requestIn request) first e))
@@ -163,12 +164,4 @@ chosen-alone =
       of-readings = λ span r r′ s. rw (s .same-kind, s .same-point, s .same-record, s .same-label);
       of-images = readings-alone;
       of-replies = λ image image′ same request other before. rw (ne-eqb _ 102 other, readings-alone image image′ same (spanIn request));
-    }
-
-pub object-n : ObjectN
-object-n type point address r octets n least most =
-    record {
-      number = object-number type point address r n least most;
-      value = object-value type point address r n least most octets;
-      quality = object-quality type point address r n least most;
     }

@@ -7,6 +7,7 @@ use Rattle.octets.specs.Numbers.{lowFirst, highFirst, lowOctets}
 use Rattle.octets.specs.Over.{over}
 use Rattle.octets.specs.Calls.{fitsAt, added}
 use Rattle.octets.specs.Sum.{octetSum, checksum}
+use Rattle.octets.specs.Values.{signed, unsigned}
 use Rattle.octets.specs.Keeping.{octetsOf, keptOf}
 use Rattle.history.specs.History.{answers, after, fed}
 use Rattle.label.specs.Calendar.{leap, leapDay, monthLength, daysOfMonths, daysToYear, dayNumber}
@@ -27,13 +28,17 @@ use Rattle.fields.specs.Calls.{valueFound, eventFound}
 use Rattle.fields.specs.Parts.{numberAt, linkOf, dateOf, makerOf, productOf, pointOf, passwordOf}
 use Rattle.fields.specs.Parts.{firstDate, secondDate, recordAddress, readingLabel, valueOf, qualityOf, spaOf, spqOf, eventLabel}
 use Rattle.image.specs.Image.{readingRecord, eventRecord, right, byPoint, readingBefore, eventBefore, inOrder, knows, soundImage}
+use Rattle.choice.specs.Choice.{inSpan, chosen, choice}
 use Rattle.message.specs.Headers.{headerOf, headerOctets}
-use Rattle.message.specs.Requests.{asksReadings, labelsFrom, requestOf}
+use Rattle.message.specs.Requests.{objectsOffered, objectsMany, asksReadings, labelsFrom, requestOf}
 use Rattle.message.specs.Mirror.{mirror, mirrorOf}
 use Rattle.message.specs.Table.{table, rowIn}
-use Rattle.rules.specs.Decide.{spanOf, objectsRight, labelsValid, firstAfterLast, noneIn, byType, decide}
+use Rattle.rules.specs.Decide.{spanOf, labelsValid, firstAfterLast, noneIn, byType, decide}
+use Rattle.data.specs.Messages.{replyHeader, objectOctets, objectsOctets, readingReply}
+use Rattle.data.specs.Portions.{portion, readingPortion, nextReading}
 use Rattle.deeds.specs.Deeds.{carriedOut, nothingPending}
 use Rattle.waiting.specs.NextReply.{firstly, lastly, nothingFound, readingType, dataPending, mirrorWith, clockFrom, dataFrom, afterData, beginWith, nextOf}
+use Rattle.waiting.specs.Collected.{messagesCollected}
 use Rattle.link.specs.State.{powerOn, afterReset, afterNew}
 use Rattle.link.specs.Answering.{answeredBy, noted, carried, userData, given, collection, counted, answered}
 use Rattle.card.specs.State.{cardAtPowerOn, withOctet, leftWith, damagedBy}
@@ -41,7 +46,7 @@ use Rattle.card.specs.Examining.{examinedFrame, examined}
 use Rattle.card.specs.Gap.{refusal, repliedBy, afterAnswer, afterExamining, gapped, goneBy}
 
 unfoldable pub of-octets : Unit {0}
-unfolding flatten holds lowFirst highFirst lowOctets over fitsAt octetSum checksum octetsOf keptOf added
+unfolding flatten holds lowFirst highFirst lowOctets over fitsAt octetSum checksum signed unsigned octetsOf keptOf added
 of-octets = tt
 
 unfoldable pub of-history : Unit {0}
@@ -74,20 +79,28 @@ unfoldable pub of-image : Unit {0}
 unfolding readingRecord eventRecord right byPoint readingBefore eventBefore inOrder knows soundImage
 of-image = tt
 
+unfoldable pub of-choice : Unit {0}
+unfolding inSpan chosen choice
+of-choice = tt
+
 unfoldable pub of-message : Unit {0}
-unfolding headerOf headerOctets asksReadings labelsFrom requestOf mirror mirrorOf table rowIn
+unfolding headerOf headerOctets objectsOffered objectsMany asksReadings labelsFrom requestOf mirror mirrorOf table rowIn
 of-message = tt
 
 unfoldable pub of-rules : Unit {0}
-unfolding spanOf objectsRight labelsValid firstAfterLast noneIn byType decide
+unfolding spanOf labelsValid firstAfterLast noneIn byType decide
 of-rules = tt
+
+unfoldable pub of-data : Unit {0}
+unfolding replyHeader objectOctets objectsOctets readingReply portion readingPortion nextReading
+of-data = tt
 
 unfoldable pub of-deeds : Unit {0}
 unfolding carriedOut nothingPending
 of-deeds = tt
 
 unfoldable pub of-waiting : Unit {0}
-unfolding firstly lastly nothingFound readingType dataPending mirrorWith clockFrom dataFrom afterData beginWith nextOf
+unfolding firstly lastly nothingFound readingType dataPending mirrorWith clockFrom dataFrom afterData beginWith nextOf messagesCollected
 of-waiting = tt
 
 unfoldable pub of-link : Unit {0}
@@ -99,5 +112,5 @@ unfolding cardAtPowerOn withOctet leftWith damagedBy examinedFrame examined refu
 of-card = tt
 
 unfoldable pub everything : Unit {0}
-unfolding of-octets of-history of-label of-frame of-collector of-records of-fields of-image of-message of-rules of-deeds of-waiting of-link of-card
+unfolding of-octets of-history of-label of-frame of-collector of-records of-fields of-image of-choice of-message of-rules of-data of-deeds of-waiting of-link of-card
 everything = tt

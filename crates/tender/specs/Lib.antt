@@ -5,5 +5,6 @@ pub mod Condition2
 pub mod Condition3
 pub mod Rules
 pub mod Cases
+pub mod Ranges
 pub mod Wrong
 pub mod Unruly

@@ -1,16 +1,14 @@
 -- Document 01's rules of the link, of orders, of the session and of what waits, one by one, each beside the paper's sentence: first as statements about any
 -- card's calls, collected in `Rules`, then about the definitions that these cite. What a card leaves is spelled part by part, so that a part which changes
 -- where it may not is seen. `P ⊎ Q` says: P or Q. Assumes nothing.
-use Prim.Native.Nat.{ℕ, _-_, _+_, _*_, _≤_, _<_}
+use Prim.Native.Nat.{ℕ, _-_, _+_, _≤_}
 use mathlib.Core.Bool.{Bool, true, false, _||_}
 use mathlib.Core.List.{List, [], _∷_, _++_, map}
 use mathlib.Core.Logic.{_⊎_}
 use mathlib.Core.Path.{_≡_}
 use lib.Dec.{ltb}
-use lib.ListN.{length, getD, take, drop, replicate}
+use lib.ListN.{length, drop, replicate}
 use Rattle.octets.specs.Over.{laidIn}
-use Rattle.octets.specs.Numbers.{lowFirst}
-use Rattle.octets.specs.Values.{signed}
 use Rattle.history.specs.History.{Stepped, Each}
 use Rattle.address.specs.declared.LinkAddress.{LinkAddress}
 use Rattle.address.specs.declared.PointAddress.{PointAddress}
@@ -31,7 +29,7 @@ use Rattle.fields.specs.declared.IdentityFound.{IdentityFound}
 use Rattle.fields.specs.declared.IdentityFound.the-variants as head
 use Rattle.fields.specs.declared.DatesFound.{DatesFound}
 use Rattle.fields.specs.declared.DatesFound.the-variants as dates
-use Rattle.fields.specs.Parts.{pointOf, recordAddress, readingLabel, valueOf, qualityOf}
+use Rattle.fields.specs.Parts.{pointOf, recordAddress, readingLabel}
 use Rattle.fields.specs.Answers.{identityFound, datesFound}
 use Rattle.image.specs.Image.{soundImage}
 use Rattle.choice.specs.declared.Span.{Span}
@@ -43,7 +41,7 @@ use Rattle.rules.specs.declared.Rule.{Rule}
 use Rattle.rules.specs.declared.Rule.the-variants.{WrongPassword, Accepted}
 use Rattle.rules.specs.Rules.{causeBy, pnBy}
 use Rattle.rules.specs.Decide.{spanOf, decide}
-use Rattle.data.specs.Messages.{identityReply, clockReply, datesReply, readingReply}
+use Rattle.data.specs.Messages.{identityReply, clockReply, datesReply}
 use Rattle.deeds.specs.declared.Order.{Order}
 use Rattle.deeds.specs.declared.Order.the-variants as order
 use Rattle.deeds.specs.declared.Pending.{Pending}
@@ -281,12 +279,12 @@ abbrev pub datesOf : DatesFound → Kept → List Kept
 datesOf (dates.Is d) request = keptOf (datesReply (pointIn request) d) ∷ []
 datesOf dates.Nothing request = []
 
--- type 1, and types 8 and 11, of what is chosen
+-- type 1, and types 8 and 11 with the objects that are asked for, of what is chosen
 abbrev pub eventsFor : List ℕ → Kept → List Kept
 eventsFor image request = map (eventsMessage (spanIn request)) (inGroups 27 (choice (Event (spanIn request)) image))
 
 abbrev pub readingsFor : ℕ → List ℕ → Kept → List Kept
-readingsFor type image request = map (readingMessage type (spanIn request)) (choice (Reading (spanIn request)) image)
+readingsFor type image request = map (readingMessage type (spanIn request) (requestIn request .objects)) (choice (Reading (spanIn request)) image)
 
 -- of a request accepted with an image and a clock
 abbrev pub waitingRows : List ℕ → List ℕ → Kept → List WaitingRow
@@ -338,17 +336,3 @@ pub record ChosenAlone : Type 0 where
       → choice (Reading span) image ≡ choice (Reading span) image′
   pub of-replies : (image image′ : List ℕ) → readingsOf image ≡ readingsOf image′ → (request : Kept)
       → (requestIn request .header .«type_id» ≡ 102 → ⊥) → (before : ℕ) → dataFrom request image before ≡ dataFrom request image′ before
-
--- "Types 8 and 11: .. header, six times (object number, value, quality), label": the object numbered n carries value n and quality n of the reading
-abbrev pub objectPart : ℕ → List ℕ → List ℕ
-objectPart n message = take 6 (drop (6 + 6 * (n - 1)) message)
-
-pub record ObjectOf (n : ℕ) (r message : List ℕ) : Type 0 where
-  pub number : getD (objectPart n message) 0 0 ≡ n
-  pub value : signed (lowFirst (take 4 (drop 1 (objectPart n message)))) ≡ valueOf n r
-  pub quality : getD (objectPart n message) 5 0 ≡ qualityOf n r
-
-abbrev pub ObjectN : Type 0
-ObjectN =
-    (type : ℕ) (point : PointAddress) (address : ℕ) (r : List ℕ) → ((i : ℕ) → getD r i 0 < 256) → (n : ℕ) → 1 ≤ n → n ≤ 6
-    → ObjectOf n r (readingReply type point address r)

@@ -1,6 +1,7 @@
 -- What the centre collects with one image: k chosen events leave in (k + 26) / 27 messages, all but the last full, k chosen readings in k messages,
 -- in image order, and then mirror 10. By one lemma over the size of a group, a group a turn. Assumes nothing.
 use Prim.Native.Nat.{ℕ, zero, suc, _+_, _/_, _≤_, _<_}
+use mathlib.Core.Bool.{true}
 use mathlib.Core.List.{List, [], _∷_, _++_, map, flatten}
 use mathlib.Core.Path.{_≡_, refl, sym, ap, _∙_}
 use native.Mathlib.Omega.{arith}
@@ -11,7 +12,9 @@ use Rattle.choice.specs.declared.Span.{Span}
 use Rattle.choice.specs.declared.Query.the-variants.{Reading, Event}
 use Rattle.choice.specs.Choice.{choice}
 use Rattle.octets.specs.declared.Kept.{Kept}
+use Rattle.message.specs.declared.ObjectRange.{ObjectRange}
 use Rattle.message.specs.Mirror.{mirrorOf}
+use Rattle.message.specs.Requests.{objectsOffered}
 use Rattle.rules.specs.Decide.{spanOf}
 use Rattle.data.specs.declared.Portion.{Portion}
 use Rattle.data.specs.Portions.{portion, readingPortion, eventsPortion, nextReading, nextEvents}
@@ -39,13 +42,14 @@ unfolding eventsPortion portion eventsMessage
 events-given span [] = refl
 events-given span (r ∷ rs) = refl
 
-abbrev firstMessage : ℕ → Span → List (List ℕ) → Kept
-firstMessage type span rs = readingMessage type span (getD rs 0 [])
+abbrev firstMessage : ℕ → Span → ObjectRange → List (List ℕ) → Kept
+firstMessage type span objects rs = readingMessage type span objects (getD rs 0 [])
 
-readings-given : (type : ℕ) (span : Span) (rs : List (List ℕ)) → readingPortion type span rs ≡ groupGiven 1 (firstMessage type span) rs
+readings-given : (type : ℕ) (span : Span) (objects : ObjectRange) (rs : List (List ℕ))
+    → readingPortion type span objects rs ≡ groupGiven 1 (firstMessage type span objects) rs
 unfolding readingPortion portion readingMessage
-readings-given type span [] = refl
-readings-given type span (r ∷ rs) = refl
+readings-given type span objects [] = refl
+readings-given type span objects (r ∷ rs) = refl
 
 -- The theorem: a request that waits with mirror 7 and data behind it, and one image lent with every collection.
 module _ (pending : Pending) (image : List ℕ) where
@@ -57,6 +61,9 @@ module _ (pending : Pending) (image : List ℕ) where
 
   abbrev span : Span
   span = spanOf (asked request)
+
+  abbrev objects : ObjectRange
+  objects = asked request .objects
 
   abbrev events : List (List ℕ)
   events = choice (Event span) image
@@ -110,12 +117,14 @@ module _ (pending : Pending) (image : List ℕ) where
   pub events-order : flatten (inGroups 27 events) ≡ events
   events-order = groups-order events
 
-  -- 122, 123: mirror 7, a message for each chosen reading in image order, mirror 10
-  pub readings-collected : pending .waiting ≡ Begin → (type ≡ 102 → ⊥) → (turns : ℕ) → 2 + length readings ≤ turns
-      → messagesCollected turns pending image ≡ mirrorOf request 0 7 ∷ (map (readingMessage (readingType type) span) readings ++ (mirrorOf request 0 10 ∷ []))
+  -- 122, 123: mirror 7, a message with the objects that are asked for of each chosen reading in image order, mirror 10
+  pub readings-collected : pending .waiting ≡ Begin → (type ≡ 102 → ⊥) → objectsOffered objects ≡ true → (turns : ℕ) → 2 + length readings ≤ turns
+      → messagesCollected turns pending image
+      ≡ mirrorOf request 0 7 ∷ (map (readingMessage (readingType type) span objects) readings ++ (mirrorOf request 0 10 ∷ []))
   unfolding dataFrom nextReading
-  readings-collected begin n turns enough =
-      let f : List (List ℕ) → Kept = firstMessage (readingType type) span in
+  readings-collected begin n offered turns enough =
+      let f : List (List ℕ) → Kept = firstMessage (readingType type) span objects in
       rw (← groups-of-one readings f)
-      (begun-collected 0 f readings (λ before. rw (ne-eqb type 102 n) (readings-given (readingType type) span (drop before readings))) begin turns
+      (begun-collected 0 f readings
+      (λ before. rw (ne-eqb type 102 n, offered) (readings-given (readingType type) span objects (drop before readings))) begin turns
       (omega (arith, ones-number readings, enough)))

@@ -13,16 +13,25 @@ use Rattle.choice.specs.declared.Query.the-variants.{Reading, Event}
 use Rattle.choice.specs.Choice.{choice}
 use Rattle.choice.proofs.Chosen.{choice-few}
 use Rattle.octets.specs.declared.Kept.{Kept}
+use Rattle.message.specs.declared.ObjectRange.{ObjectRange}
+use Rattle.message.specs.Requests.{objectsOffered}
 use Rattle.rules.specs.Decide.{spanOf}
 use Rattle.data.specs.declared.Portion.{Portion}
 use Rattle.data.specs.Portions.{portion, readingPortion, eventsPortion, nextReading, nextEvents}
 use Rattle.waiting.specs.NextReply.{readingType, asked, dataFrom}
 
 -- of those that are left
-reading-left : (type : ℕ) (span : Span) (rs : List (List ℕ)) → readingPortion type span rs .many ≤ length rs
+reading-left : (type : ℕ) (span : Span) (objects : ObjectRange) (rs : List (List ℕ)) → readingPortion type span objects rs .many ≤ length rs
 unfolding readingPortion portion
-reading-left type span [] = omega arith
-reading-left type span (r ∷ rs) = omega arith
+reading-left type span objects [] = omega arith
+reading-left type span objects (r ∷ rs) = omega arith
+
+next-left : (type : ℕ) (span : Span) (objects : ObjectRange) (image : List ℕ) (before : ℕ)
+    → nextReading type span objects image before .many ≤ length (drop before (choice (Reading span) image))
+unfolding nextReading portion
+next-left type span objects image before =
+    let left = drop before (choice (Reading span) image) in
+    either (λ (g : Portion). g .many ≤ length left) (objectsOffered objects) (λ _. reading-left type span objects left) (λ _. omega arith)
 
 events-left : (span : Span) (rs : List (List ℕ)) → eventsPortion span rs .many ≤ length rs
 unfolding eventsPortion portion
@@ -35,11 +44,11 @@ count-fits query image before many small room few = omega (arith, choice-few que
 
 pub given-fits : (request : Kept) (image : List ℕ) (before : ℕ) {some : Portion} → before < 2 ^ 64 → length image < 2 ^ 64
     → some ≡ dataFrom request image before → before + some .many < 2 ^ 64
-unfolding dataFrom nextReading nextEvents
+unfolding dataFrom nextEvents
 given-fits request image before small room e =
     let r = asked request in
     rw e
     (either (λ (g : Portion). before + g .many < 2 ^ 64) (eqb (r .header .«type_id») 102)
     (λ _. count-fits (Event (spanOf r)) image before _ small room (events-left (spanOf r) (drop before (choice (Event (spanOf r)) image))))
     (λ _. count-fits (Reading (spanOf r)) image before _ small room
-    (reading-left (readingType (r .header .«type_id»)) (spanOf r) (drop before (choice (Reading (spanOf r)) image)))))
+    (next-left (readingType (r .header .«type_id»)) (spanOf r) (r .objects) image before)))

@@ -21,6 +21,7 @@ use Rattle.octets.specs.declared.Kept.{Kept}
 use Rattle.message.specs.Headers.{tOf, causeOctet, headerOctets}
 use Rattle.octets.specs.Keeping.{keptOf}
 use Rattle.message.specs.Mirror.{mirror, mirrorOf}
+use Rattle.message.specs.Requests.{objectsOffered, objectsMany}
 use Rattle.rules.specs.Decide.{spanOf}
 use Rattle.data.specs.Messages.{replyHeader, identityReply, clockReply, readingReply}
 use Rattle.data.specs.Portions.{portion, readingPortion, nextReading}
@@ -107,11 +108,19 @@ module _ (κs : Lfts 1) (x : Place) (a b c : ℕ) (rest : List ℕ) (long : ℕ)
       omega arith
 
   -- type 11 for a 122
-  next-reply-122 : (n : ℕ) (r : List ℕ) (rs : List (List ℕ)) → asked request .header .«type_id» ≡ 122
+  next-reply-122 : (n : ℕ) (r : List ℕ) (rs : List (List ℕ)) → asked request .header .«type_id» ≡ 122 → objectsOffered (asked request .objects) ≡ true
       → drop n (choice (Reading (spanOf (asked request))) image) ≡ r ∷ rs → getD (wrong .message .octets) 0 0 ≡ 11
       → RuledOut (next-reply.Post κs) (held (More n), (lent x image, tt)) wrong
   unfolding nextOf afterData firstly dataFrom readingType nextReading readingPortion portion keptOf over readingReply replyHeader headerOctets
-  next-reply-122 n r rs type left eleven s p = omega (arith, ap (λ (next : Next). getD (next .message .octets) 0 0) (rw (left, type) at p))
+  next-reply-122 n r rs type offered left eleven s p = omega (arith, ap (λ (next : Next). getD (next .message .octets) 0 0) (rw (left, type, offered) at p))
+
+  -- another N than that of the objects in the request that is kept
+  next-reply-objects : (n : ℕ) (r : List ℕ) (rs : List (List ℕ)) → (asked request .header .«type_id» ≡ 102 → ⊥) → objectsOffered (asked request .objects) ≡ true
+      → drop n (choice (Reading (spanOf (asked request))) image) ≡ r ∷ rs → (getD (wrong .message .octets) 1 0 ≡ objectsMany (asked request .objects) → ⊥)
+      → RuledOut (next-reply.Post κs) (held (More n), (lent x image, tt)) wrong
+  unfolding nextOf afterData firstly dataFrom nextReading readingPortion portion keptOf over readingReply replyHeader headerOctets
+  next-reply-objects n r rs other offered left differ s p =
+      differ (ap (λ (next : Next). getD (next .message .octets) 1 0) (rw (left, ne-eqb _ 102 other, offered) at p))
 
   -- 71 with another maker than the image's
   next-reply-identity : (h : Meter) → identityFound image ≡ head.Is h → (getD (wrong .message .octets) 7 0 ≡ h .maker → ⊥)

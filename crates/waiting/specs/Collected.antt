@@ -7,6 +7,7 @@ use Rattle.octets.specs.Choice.{if_then_else_}
 use Rattle.choice.specs.declared.Span.{Span}
 use Rattle.octets.specs.declared.Kept.{Kept}
 use Rattle.octets.specs.Keeping.{keptOf}
+use Rattle.message.specs.declared.ObjectRange.{ObjectRange}
 use Rattle.data.specs.Messages.{readingReply, eventsReply}
 use Rattle.deeds.specs.declared.Pending.{Pending}
 use Rattle.waiting.specs.NextReply.{nextOf}
@@ -28,9 +29,9 @@ groupsOf (suc most) size (r ∷ rs) = take size (r ∷ rs) ∷ groupsOf most siz
 unfoldable pub inGroups : ℕ → List (List ℕ) → List (List (List ℕ))
 inGroups size rs = groupsOf (length rs) size rs
 
--- type 1 of some events; type 8 or 11 of a reading
+-- type 1 of some events; type 8 or 11 of a reading's objects
 unfoldable pub eventsMessage : Span → List (List ℕ) → Kept
 eventsMessage span rs = keptOf (eventsReply (span .point) (span .record_address) rs)
 
-unfoldable pub readingMessage : ℕ → Span → List ℕ → Kept
-readingMessage type span r = keptOf (readingReply type (span .point) (span .record_address) r)
+unfoldable pub readingMessage : ℕ → Span → ObjectRange → List ℕ → Kept
+readingMessage type span objects r = keptOf (readingReply type (span .point) (span .record_address) objects r)

@@ -64,11 +64,11 @@ module _ (request : Kept) where
   unfoldable pub clockFrom : List ℕ → Next
   clockFrom clock = lastly (keptOf (clockReply (asked .header .point) clock))
 
-  -- 102 asks for type 1: the next of the chosen, when so many are given already
+  -- 102 asks for type 1: the next of the chosen, when so many are given already; of a reading the objects that are asked for
   unfoldable pub dataFrom : List ℕ → ℕ → Portion
   dataFrom image before =
       if eqb (asked .header .«type_id») 102 then nextEvents (spanOf asked) image before else
-      nextReading (readingType (asked .header .«type_id»)) (spanOf asked) image before
+      nextReading (readingType (asked .header .«type_id»)) (spanOf asked) (asked .objects) image before
 
   -- when that image has no more chosen, mirror 10 follows
   unfoldable pub afterData : List ℕ → ℕ → Portion → Next

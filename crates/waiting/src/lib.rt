@@ -115,11 +115,12 @@ fn data_from(request: Kept, image: &[u8], before: usize) -> Portion
 {
     let asked = asked(request);
     let type_id = asked.header.type_id;
+    let objects = asked.objects;
     let span = rules::span_of(asked);
     if type_id == 102 {
         return data::events(image, span, before);
     }
-    data::reading(image, span, reading_type(type_id), before)
+    data::reading(image, span, objects, reading_type(type_id), before)
 }
 
 // Data, or mirror 10 when no more is chosen.

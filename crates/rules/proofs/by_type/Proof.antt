@@ -2,7 +2,7 @@
 -- With the type known, the tests for other types compute away. Assumes nothing.
 use borrow.Author.Tests.{ne-eqb}
 use Rattle.message.specs.Requests.{asksReadings}
-use Rattle.rules.specs.Decide.{objectsRight, labelsValid, firstAfterLast, spanOf, byType}
+use Rattle.rules.specs.Decide.{labelsValid, firstAfterLast, spanOf, byType}
 use borrow.Author.Needs.{needs}
 use Rattle.rules.proofs.by_type.Statement.{statement}
 use Rattle.rules.proofs.by_type.Tie as tie
@@ -59,15 +59,15 @@ for-switch-requires : tie.Need-for-switch-requires
 for-switch-requires c κs = search needs
 
 returns : tie.Need-returns
-unfolding byType asksReadings objectsRight labelsValid firstAfterLast spanOf
+unfolding byType asksReadings labelsValid firstAfterLast spanOf
 returns c = rw (c .before .match .keys1) (c .for-readings .ensures)
 
 returns-2 : tie.Need-returns-2
-unfolding byType asksReadings objectsRight labelsValid firstAfterLast spanOf
+unfolding byType asksReadings labelsValid firstAfterLast spanOf
 returns-2 c = rw (c .before .match .keys2) (c .for-readings2 .ensures)
 
 returns-3 : tie.Need-returns-3
-unfolding byType asksReadings objectsRight labelsValid firstAfterLast spanOf
+unfolding byType asksReadings labelsValid firstAfterLast spanOf
 returns-3 c = rw (c .before .before .match .keys3, ← (c .before .span-of .ensures)) (c .ranged .ensures)
 
 returns-4 : tie.Need-returns-4
@@ -87,7 +87,7 @@ unfolding byType asksReadings
 returns-7 c = rw (c .before .before .before .match .keys7, c .unless4 .ensures, c .before .is-dated .ensures, c .before .before .dates-of .ensures)
 
 returns-8 : tie.Need-returns-8
-unfolding byType asksReadings objectsRight labelsValid firstAfterLast spanOf
+unfolding byType asksReadings labelsValid firstAfterLast spanOf
 returns-8 c = rw (c .before .match .keys8) (c .for-switch .ensures)
 
 returns-9 : tie.Need-returns-9

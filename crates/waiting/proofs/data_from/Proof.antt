@@ -17,7 +17,7 @@ events-requires c κs = search needs
 
 returns : tie.Need-returns
 unfolding dataFrom
-returns c = rw (← (c .before .before .before .asked .ensures), eq-eqb _ 102 (c .before .if1 .taken), ← (c .before .before .span-of .ensures)) (c .events .ensures)
+returns c = rw (← (c .before .before .before .before .asked .ensures), eq-eqb _ 102 (c .before .if1 .taken), ← (c .before .before .span-of .ensures)) (c .events .ensures)
 
 reading-type-requires : tie.Need-reading-type-requires
 reading-type-requires c κs = search needs
@@ -27,7 +27,7 @@ reading-requires c κs = search needs
 
 returns-2 : tie.Need-returns-2
 unfolding dataFrom
-returns-2 c = rw (← (c .before .before .before .before .asked .ensures), ne-eqb _ 102 (c .before .before .if1 .left), ← (c .before .before .before .span-of .ensures), ← (c .before .reading-type .ensures)) (c .reading .ensures)
+returns-2 c = rw (← (c .before .before .before .before .before .asked .ensures), ne-eqb _ 102 (c .before .before .if1 .left), ← (c .before .before .before .span-of .ensures), ← (c .before .reading-type .ensures)) (c .reading .ensures)
 
 pub data-from-spec : {M : Type 1} → statement M
 data-from-spec =
