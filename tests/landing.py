@@ -16,9 +16,11 @@ import tempfile
 import time
 from pathlib import Path
 
+from sources import functions
+
 ROOT = Path(__file__).resolve().parent.parent
 BEGIN, END = "<!--moved-->", "<!---->"
-TIMES = "| `rt prove` |"
+TIMES = "| `rt prove`"
 HEAD = re.compile(r" *(?:pub |abbrev |unfoldable )*(record |data )?([^\s(){}:]+) ")
 
 
@@ -85,17 +87,12 @@ def declarations(text):
 
 def promises(text):
     """(name, head with contract) of each function of a source file."""
-    lines, owner = text.splitlines(), ""
-    for at, line in enumerate(lines):
-        if found := re.match(r"impl (\w+) \{", line):
-            owner = found.group(1) + "::"
-        elif line == "}":
-            owner = ""
-        elif found := re.match(r"\s*(?:pub(?:\(crate\))? )?(?:extern \"C\" )?fn (\w+)", line):
-            end = at
-            while lines[end].strip() != "{" and not lines[end].endswith(") {") and not re.search(r"-> \w+ \{$", lines[end]):
-                end += 1
-            yield owner + found.group(1), plain(lines[at:end + 1])
+    lines = text.splitlines()
+    for name, at, _ in functions(lines):
+        end = at
+        while lines[end].strip() != "{" and not lines[end].endswith(") {") and not re.search(r"-> \w+ \{$", lines[end]):
+            end += 1
+        yield name, plain(lines[at:end + 1])
 
 
 def types(text):
@@ -171,6 +168,7 @@ def proving_time(commit):
 
 
 def main(note, before, after, *words):
+    before, after = (git("rev-parse", "--short", commit).strip() for commit in (before, after))
     path = ROOT / "docs" / "landings" / f"{note}.md"
     text = path.read_text(encoding="utf8")
     head, mark, rest = text.partition(BEGIN)
@@ -178,11 +176,10 @@ def main(note, before, after, *words):
     if not mark or not end:
         sys.exit(f"landing: {path} has no {BEGIN} .. {END}")
     if words == ("--prove",):
-        times = f"{TIMES} {proving_time(before)} | {proving_time(after)} |"
+        times = f"{TIMES} of {before} and of {after} | {proving_time(before)} | {proving_time(after)} |"
     else:
-        times = next((line for line in old.splitlines() if line.startswith(TIMES)), f"{TIMES} not measured | not measured |")
-    before, after = (git("rev-parse", "--short", commit).strip() for commit in (before, after))
-    lines = [*moved(before, after), "", f"| | before, {before} | after, {after} |", "|---|---|---|", times]
+        times = next((line for line in old.splitlines() if line.startswith(TIMES)), f"{TIMES} | not measured | not measured |")
+    lines = [f"From {before} to {after}:", "", *moved(before, after), "", "| | before | after |", "|---|---|---|", times]
     path.write_text(head + BEGIN + "\n\n" + "\n".join(lines) + "\n\n" + END + tail, encoding="utf8")
 
 

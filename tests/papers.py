@@ -18,6 +18,7 @@ import sys
 from edits import read_edits
 from programs import ROOT
 from slips import TABLE as SLIPS, rests_on
+from sources import functions
 
 CRATES, CONTRACTS, READING = ROOT / "crates", ROOT / "docs" / "CONTRACTS.md", ROOT / "docs" / "READING.md"
 README, STORED = ROOT / "README.md", CRATES / "explain"
@@ -39,17 +40,12 @@ class Call:
 
 
 def calls_of(crate):
-    """The public functions of a crate's source, by name; a method is `Type::name`."""
-    calls, owner = {}, ""
+    """The public functions of a crate's source, by name."""
+    calls = {}
     for file in sorted((CRATES / crate / "src").glob("*.rt")):
         lines = file.read_text(encoding="utf8").splitlines()
-        for at, line in enumerate(lines):
-            if found := re.match(r"impl (\w+) \{", line):
-                owner = found.group(1) + "::"
-            elif line == "}":
-                owner = ""
-            elif found := re.match(r"\s*pub (?:extern \"C\" )?fn (\w+)", line):
-                name = owner + found.group(1)
+        for name, at, public in functions(lines):
+            if public:
                 calls[name] = Call(crate, name, has_contract(lines[at:]))
     return calls
 

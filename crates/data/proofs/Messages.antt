@@ -21,6 +21,7 @@ use Rattle.message.specs.declared.ObjectRange.{ObjectRange}
 use Rattle.message.specs.Headers.{headerOctets}
 use Rattle.message.specs.Requests.{objectsMany}
 use Rattle.label.specs.Label.{labelAOctets, labelBOctets}
+use Rattle.data.specs.Calls.{objectPart}
 use Rattle.data.specs.Messages.{replyHeader, identityReply, clockReply, datesReply, objectOctets, objectsOctets, readingReply, eventOctets, eventsOctets, eventsReply}
 
 -- each message is its header and what stands behind, from octet 6 on
@@ -80,10 +81,6 @@ objects-at object (suc many) (suc i) r back h =
     let further : object + suc i ≡ suc object + i = omega arith in
     rw (append-assoc, further, behind-first 6 (objectOctets object r) (objectsOctets (suc object) many r ++ back) i (object-length object r))
     (objects-at (suc object) many i r back (omega arith))
-
--- the octets of the i-th object in a message, counted from 0
-abbrev pub objectPart : ℕ → List ℕ → List ℕ
-objectPart i message = take 6 (drop (6 + 6 * i) message)
 
 -- the bits of an object's value, and its value from them
 value-bits : (n : ℕ) (r : List ℕ) → Octets r → (unsigned (valueOf n r) < 256 ^ 4) × (signed (unsigned (valueOf n r)) ≡ valueOf n r)

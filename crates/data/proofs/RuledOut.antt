@@ -27,9 +27,10 @@ use Rattle.message.specs.Requests.{objectsOffered, objectsMany}
 use Rattle.octets.specs.Keeping.{octetsOf, keptOf}
 use Rattle.data.specs.declared.Portion.{Portion}
 use Rattle.label.specs.Label.{labelAOctets, labelBOctets}
+use Rattle.data.specs.Calls.{objectPart}
 use Rattle.data.specs.Messages.{replyHeader, identityReply, clockReply, datesReply, objectOctets, readingReply, eventOctets, eventsOctets, eventsReply}
 use Rattle.data.specs.Portions.{portion, readingPortion, eventsPortion, nextReading, nextEvents}
-use Rattle.data.proofs.Messages.{objectPart, reading-length, object-there, label-there}
+use Rattle.data.proofs.Messages.{reading-length, object-there, label-there}
 use Rattle.data.proofs.identity.Reads as identity
 use Rattle.data.proofs.clock.Reads as clock
 use Rattle.data.proofs.dates.Reads as dates
@@ -148,21 +149,18 @@ portion-many span [] = refl
 portion-many span (r ∷ rs) = refl
 
 module _ (κs : Lfts 1) (image : RefT (List ℕ)) (span : Span) (before : ℕ) (wrong : Portion) where
-  -- a reading given where none is left, whatever the objects
-  reading-again : (objects : ObjectRange) (type : ℕ) → drop before (choice (Reading span) (now image)) ≡ [] → 0 < wrong .many
+  -- anything given where none is left, whatever the objects: a reading, or octets without one
+  reading-again : (objects : ObjectRange) (type : ℕ) → drop before (choice (Reading span) (now image)) ≡ [] → (wrong ≡ portion [] 0 → ⊥)
       → RuledOut (reading.Post κs) (image, (span, (objects, (type, (before, tt))))) wrong
-  unfolding nextReading readingPortion portion
-  reading-again objects type none many s e =
-      let given : wrong .many ≡ 0 =
-      ap (λ (g : Portion). g .many) (rw none at e)
-      ∙ either (λ (g : Portion). g .many ≡ 0) (objectsOffered objects) {a = portion [] 0} {b = portion [] 0} (λ _. refl) (λ _. refl) in
-      omega (arith, many, given)
+  unfolding nextReading readingPortion
+  reading-again objects type none some s e =
+      some (rw none at e ∙ either (λ (g : Portion). g ≡ portion [] 0) (objectsOffered objects) (λ _. refl) (λ _. refl))
 
-  -- a reading given with objects that are not offered
-  reading-refused : (objects : ObjectRange) (type : ℕ) → objectsOffered objects ≡ false → 0 < wrong .many
+  -- anything given of objects that are not offered
+  reading-refused : (objects : ObjectRange) (type : ℕ) → objectsOffered objects ≡ false → (wrong ≡ portion [] 0 → ⊥)
       → RuledOut (reading.Post κs) (image, (span, (objects, (type, (before, tt))))) wrong
-  unfolding nextReading portion
-  reading-refused objects type none many s e = omega (arith, many, ap (λ (g : Portion). g .many) (rw none at e))
+  unfolding nextReading
+  reading-refused objects type none some s e = some (rw none at e)
 
   -- 26 events in a message where 27 or more are left
   events-fewer : 27 ≤ length (drop before (choice (Event span) (now image))) → wrong .many ≡ 26

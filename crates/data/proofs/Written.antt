@@ -28,8 +28,8 @@ use Rattle.octets.specs.Calls.{added}
 use Rattle.octets.proofs.Keeping.{added-more}
 use Rattle.label.specs.Label.{labelAOctets, labelBOctets}
 use Rattle.message.specs.declared.ObjectRange.{ObjectRange}
+use Rattle.message.specs.Calls.{Offered}
 use Rattle.message.specs.Requests.{objectsMany}
-use Rattle.message.proofs.Requests.{Offered}
 use Rattle.data.specs.Messages.{replyHeader, objectOctets, objectsOctets, eventOctets}
 use Rattle.data.proofs.Messages.{header-length, label-length, object-length, objects-length}
 

@@ -12,14 +12,9 @@ use Rattle.octets.proofs.Lists.{part-at}
 use Rattle.label.specs.Label.{labelAAt, labelAOctets, labelBOctets}
 use Rattle.label.proofs.Label.{label-b-written}
 use Rattle.message.specs.declared.ObjectRange.{ObjectRange}
+use Rattle.message.specs.Calls.{Offered}
 use Rattle.message.specs.Headers.{headerOf}
 use Rattle.message.specs.Requests.{objectsOffered, objectsMany, asksReadings, labelsFrom, requestOf}
-
--- objects that a reading has: one at least, six at most
-pub record Offered (objects : ObjectRange) : Type 0 where
-  pub from-one : 1 ≤ objects .first
-  pub rising : objects .first ≤ objects .last
-  pub to-six : objects .last ≤ 6
 
 module _ (objects : ObjectRange) where
   pub offered-so : objectsOffered objects ≡ true → Offered objects

@@ -18,6 +18,7 @@ use Rattle.message.specs.declared.Addresses.the-variants.{Only}
 use Rattle.message.specs.declared.Deed.the-variants.{GivesData, SetsClock}
 use Rattle.message.specs.declared.Row.{Row}
 use Rattle.message.specs.declared.RowFound.the-variants.{Is, Nothing}
+use Rattle.message.specs.Calls.{Offered}
 use Rattle.message.specs.Headers.{headerOf, headerOctets, tOf}
 use Rattle.message.specs.Requests.{asksReadings, labelsFrom, requestOf}
 use Rattle.message.specs.Mirror.{mirror, mirrorOf}
@@ -27,7 +28,7 @@ use Rattle.message.proofs.Header.read.Reads as header-read
 use Rattle.message.proofs.Header.octets.Reads as header-octets
 use Rattle.message.proofs.ObjectRange.are_offered.Reads as are-offered
 use Rattle.message.proofs.Request.read.Reads as request-read
-use Rattle.message.proofs.Requests.{Offered, offered-so, so-offered}
+use Rattle.message.proofs.Requests.{offered-so, so-offered}
 use Rattle.message.proofs.mirrored.Reads as mirrored
 
 -- a header by its octets

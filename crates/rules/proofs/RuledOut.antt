@@ -109,15 +109,15 @@ module _ (κs : Lfts 1) (image : RefT (List ℕ)) (clock : List ℕ) (r : Reques
       → RuledOut (decide.Post κs) (session, (image, (clock, (r, tt)))) Accepted
   decide-record e = decide-behind Address Accepted (rw e) (omega arith)
 
-  -- 17 passed over: a 122 or a 123 accepted with objects that are not offered
-  decide-objects : asksReadings type ≡ true → objectsOffered (r .objects) ≡ false
-      → RuledOut (decide.Post κs) (session, (image, (clock, (r, tt)))) Accepted
-  decide-objects asks e = decide-behind Objects Accepted (rw (asks, e)) (omega arith)
+  -- 17 passed over: a 122 or a 123 with objects that are not offered accepted, or refused by 18, as where the labels are looked at before the objects
+  decide-objects : (wrong : Rule) → place Objects < place wrong → asksReadings type ≡ true → objectsOffered (r .objects) ≡ false
+      → RuledOut (decide.Post κs) (session, (image, (clock, (r, tt)))) wrong
+  decide-objects wrong behind asks e = decide-behind Objects wrong (rw (asks, e)) behind
 
-  -- the labels looked at before the objects: 18 for a 122 or a 123 with objects that are not offered
-  decide-labels-first : asksReadings type ≡ true → objectsOffered (r .objects) ≡ false
-      → RuledOut (decide.Post κs) (session, (image, (clock, (r, tt)))) ReadingLabel
-  decide-labels-first asks e = decide-behind Objects ReadingLabel (rw (asks, e)) (omega arith)
+  -- the objects looked at before the record address: 17 where it is not listed
+  decide-objects-first : addressed (rowIn table type) (head .record_address) ≡ false
+      → RuledOut (decide.Post κs) (session, (image, (clock, (r, tt)))) Objects
+  decide-objects-first e = decide-behind Address Objects (rw e) (omega arith)
 
   -- 17 for objects that are offered, as for 1 to 2
   decide-offered : objectsOffered (r .objects) ≡ true

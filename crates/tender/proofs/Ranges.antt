@@ -1,5 +1,5 @@
 -- The statements about objects (document 02, #101) hold of the definition.
--- A message is a header, objects of six octets one after the other, and a label; the rules see nothing of the objects but whether they are taken.
+-- A message is a header, objects of six octets one after the other, and a label; the rules see nothing of the objects but whether they are offered.
 -- Assumes nothing.
 use Prim.Native.Nat.{ℕ, _+_, _-_, _≤_, _<_}
 use mathlib.Core.Bool.{Bool, true, false, _||_}
@@ -26,7 +26,8 @@ use Rattle.message.specs.declared.RowFound.the-variants as row
 use Rattle.message.specs.Table.{table, rowIn}
 use Rattle.message.specs.Headers.{headerOf, headerOctets}
 use Rattle.message.specs.Requests.{objectsOffered, objectsMany, asksReadings, labelsFrom, requestOf}
-use Rattle.message.proofs.Requests.{Offered, offered-so, so-offered}
+use Rattle.message.specs.Calls.{Offered}
+use Rattle.message.proofs.Requests.{offered-so, so-offered}
 use Rattle.choice.specs.declared.Span.{Span}
 use Rattle.choice.specs.declared.Query.{Query}
 use Rattle.choice.specs.declared.Query.the-variants.{Reading}
@@ -39,17 +40,14 @@ use Rattle.choice.proofs.Laws.{nothing-nth, found-there}
 use Rattle.rules.specs.declared.Session.{Session}
 use Rattle.rules.specs.Decide.{shaped, spanOf, labelsValid, firstAfterLast, byType, decide}
 use Rattle.rules.proofs.Decided.{objects-only, objects-refused}
+use Rattle.data.specs.Calls.{objectPart}
 use Rattle.data.specs.Messages.{replyHeader, objectOctets, readingReply}
 use Rattle.data.specs.Portions.{portion, readingPortion, nextReading}
 use Rattle.data.proofs.Messages.{object-number, object-value, object-quality, reading-length, object-there, label-there}
 use Rattle.waiting.specs.NextReply.{dataFrom}
 use Rattle.tender.specs.Rules.{requestIn}
-use Rattle.tender.specs.Ranges.{Taken, manyIn, numberOf, objectPart, ObjectOf, Stands, Carries, ObjectsCarried, OfTheKept, Faulty, first-zero, last-over, first-after, Seventeen, asking, ChosenWhatever, RangesWritten}
+use Rattle.tender.specs.Ranges.{manyIn, numberOf, ObjectOf, Stands, Carries, ObjectsCarried, OfTheKept, Faulty, first-zero, last-over, first-after, Seventeen, asking, ChosenWhatever, RangesWritten}
 use Rattle.tender.proofs.Worked.{everything}
-
--- taken is offered
-taken-offered : (objects : ObjectRange) → Taken objects → objectsOffered objects ≡ true
-taken-offered objects t = so-offered objects (record { from-one = t .from-one; rising = t .rising; to-six = t .to-six })
 
 -- a record of an image has octets of the image, and so has a chosen one
 octets-record : (image : List ℕ) (at : ℕ) → Octets image → Octets (recordAt image at)
@@ -69,7 +67,7 @@ object-of : (n : ℕ) (r : List ℕ) → Octets r → ObjectOf n r (objectOctets
 object-of n r o = record { number = object-number n r; value = object-value n r o; quality = object-quality n r }
 
 -- a reading's message carries the objects
-module _ (type : ℕ) (span : Span) (objects : ObjectRange) (taken : Taken objects) (r : List ℕ) (o : Octets r) where
+module _ (type : ℕ) (span : Span) (objects : ObjectRange) (offered : Offered objects) (r : List ℕ) (o : Octets r) where
   message : List ℕ
   message = readingReply type (span .point) (span .record_address) objects r
 
@@ -86,7 +84,7 @@ module _ (type : ℕ) (span : Span) (objects : ObjectRange) (taken : Taken objec
   stands : (n : ℕ) → objects .first ≤ n → n ≤ objects .last → Stands n (manyIn objects) r message
   stands n least most =
       let place : ℕ = n - objects .first in
-      let there : place < manyIn objects = omega (arith, least, most, taken .rising) in
+      let there : place < manyIn objects = omega (arith, least, most, offered .rising) in
       let this : objects .first + place ≡ n = omega (arith, least) in
       record { place = place; there = there; its-own = rw this at (its-own place there) }
 
@@ -102,26 +100,26 @@ module _ (type : ℕ) (span : Span) (objects : ObjectRange) (taken : Taken objec
       record {
         headed = headed;
         long = long;
-        at-most = omega (arith, long, taken .from-one, taken .rising, taken .to-six);
+        at-most = omega (arith, long, offered .from-one, offered .rising, offered .to-six);
         none-left-out = stands;
-        no-other = λ i h. (omega (arith, numbered i h), omega (arith, h, numbered i h, taken .rising));
+        no-other = λ i h. (omega (arith, numbered i h), omega (arith, h, numbered i h, offered .rising));
         none-twice = λ i j h k e. omega (arith, e, numbered i h, numbered j k);
         labelled = label-there type (span .point) (span .record_address) objects r;
       }
 
 -- the next reading, where there is one
-module _ (image : List ℕ) (span : Span) (objects : ObjectRange) (taken : Taken objects) (type before : ℕ) (less : before < length (choice (Reading span) image)) where
+module _ (image : List ℕ) (span : Span) (objects : ObjectRange) (offered : Offered objects) (type before : ℕ) (less : before < length (choice (Reading span) image)) where
   next-there : nextReading type span objects image before
       ≡ portion (readingReply type (span .point) (span .record_address) objects (getD (choice (Reading span) image) before [])) 1
   unfolding nextReading readingPortion
-  next-there = rw (taken-offered objects taken, drop-cons (choice (Reading span) image) before [] less)
+  next-there = rw (so-offered objects offered, drop-cons (choice (Reading span) image) before [] less)
 
 pub objects-carried : ObjectsCarried
 unfolding portion message
-objects-carried image octets span objects taken type before less =
+objects-carried image octets span objects offered type before less =
     let r : List ℕ = getD (choice (Reading span) image) before [] in
-    rw (next-there image span objects taken type before less, octets-back (readingReply type (span .point) (span .record_address) objects r))
-    (refl, carried type span objects taken r (octets-chosen (Reading span) image before octets less))
+    rw (next-there image span objects offered type before less, octets-back (readingReply type (span .point) (span .record_address) objects r))
+    (refl, carried type span objects offered r (octets-chosen (Reading span) image before octets less))
 
 -- objects that are not offered are faulty, and the other way round
 refused-faulty : (objects : ObjectRange) → objectsOffered objects ≡ false → Faulty objects
@@ -137,7 +135,7 @@ refused-faulty objects =
     by-tests true true true z r o e = absurd (not-both e refl)
 
 faulty-refused : (objects : ObjectRange) → Faulty objects → objectsOffered objects ≡ false
-faulty-refused objects f = sym (refuted (objectsOffered objects) (λ taken. no-fault f (offered-so objects taken)))
+faulty-refused objects f = sym (refuted (objectsOffered objects) (λ offered. no-fault f (offered-so objects offered)))
   where
     no-fault : Faulty objects → Offered objects → ⊥
     no-fault (first-zero zero) o = omega (arith, zero, o .from-one)
@@ -147,6 +145,8 @@ faulty-refused objects f = sym (refuted (objectsOffered objects) (λ taken. no-f
 pub seventeen : Seventeen
 seventeen =
     record {
+      its-cause = refl;
+      its-pn = refl;
       only-so = λ session image clock r e.
           let refused = objects-only session image clock r e in
           (refused .0, refused-faulty (r .objects) (refused .1));
@@ -204,9 +204,9 @@ unfolding nextReading
 chosen-whatever =
     record {
       same-choice = λ header a b labels image asks. same-choice header a b labels asks image;
-      same-rule = λ header a b labels asks ta tb. rule-of-both header a b labels asks (taken-offered a ta) (taken-offered b tb);
+      same-rule = λ header a b labels asks ta tb. rule-of-both header a b labels asks (so-offered a ta) (so-offered b tb);
       same-number = λ type span a b image before ta tb.
-          rw (taken-offered a ta, taken-offered b tb) (same-many type span a b (drop before (choice (Reading span) image)));
+          rw (so-offered a ta, so-offered b tb) (same-many type span a b (drop before (choice (Reading span) image)));
     }
 
 -- the request's cases, by computation

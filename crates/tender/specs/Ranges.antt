@@ -3,7 +3,7 @@
 -- object 1 whatever is asked for, in number or in value; one that sends an object twice or leaves one out; one that puts the label behind six always; one that
 -- takes the objects from elsewhere than the request that is kept; and one that chooses other readings, or refuses other requests, for other objects. Assumes nothing.
 use Prim.Native.Nat.{ℕ, _+_, _-_, _*_, _≤_, _<_}
-use mathlib.Core.Bool.{true}
+use mathlib.Core.Bool.{true, false}
 use mathlib.Core.List.{List, [], _∷_, _++_, map}
 use mathlib.Core.Path.{_≡_}
 use lib.ListN.{length, getD, take, drop, replicate}
@@ -16,6 +16,7 @@ use Rattle.label.specs.Label.{labelAOctets}
 use Rattle.message.specs.declared.Header.{Header}
 use Rattle.message.specs.declared.ObjectRange.{ObjectRange}
 use Rattle.message.specs.declared.Request.{Request}
+use Rattle.message.specs.Calls.{Offered}
 use Rattle.message.specs.Headers.{headerOctets}
 use Rattle.message.specs.Requests.{asksReadings, requestOf}
 use Rattle.fields.specs.Parts.{readingLabel, valueOf, qualityOf}
@@ -25,27 +26,19 @@ use Rattle.choice.specs.Choice.{choice}
 use Rattle.rules.specs.declared.Session.{Session}
 use Rattle.rules.specs.declared.Session.the-variants.{Open}
 use Rattle.rules.specs.declared.Rule.the-variants.{Objects}
-use Rattle.rules.specs.Rules.{causeBy}
+use Rattle.rules.specs.Rules.{causeBy, pnBy}
 use Rattle.rules.specs.Decide.{spanOf, rules, decide}
+use Rattle.data.specs.Calls.{objectPart}
 use Rattle.data.specs.Portions.{nextReading}
 use Rattle.tender.specs.Cases.{smallest, ourPoint}
 use Rattle.waiting.specs.NextReply.{readingType, dataFrom}
 use Rattle.tender.specs.Rules.{requestIn, spanIn, collectedAfter}
 
--- "any first and last with 1 ≤ first ≤ last ≤ 6"
-pub record Taken (objects : ObjectRange) : Type 0 where
-  pub from-one : 1 ≤ objects .first
-  pub rising : objects .first ≤ objects .last
-  pub to-six : objects .last ≤ 6
-
--- "N = last − first + 1"
+-- "N = last − first + 1", in numbers of its own, as `Offered` says "any first and last with 1 ≤ first ≤ last ≤ 6"
 abbrev pub manyIn : ObjectRange → ℕ
 manyIn objects = objects .last - objects .first + 1
 
--- the i-th object of a message, counted from 0, behind a header of six octets: its number, its value of four octets, its quality
-abbrev pub objectPart : ℕ → List ℕ → List ℕ
-objectPart i message = take 6 (drop (6 + 6 * i) message)
-
+-- the number of the i-th object of a message
 abbrev pub numberOf : ℕ → List ℕ → ℕ
 numberOf i message = getD (objectPart i message) 0 0
 
@@ -76,7 +69,7 @@ pub record Carries (type : ℕ) (span : Span) (objects : ObjectRange) (r message
 -- whatever image of octets, sound or not, whatever span and objects: where so many of the chosen readings are given, the next one is given with these objects
 abbrev pub ObjectsCarried : Type 0
 ObjectsCarried =
-    (image : List ℕ) → ((i : ℕ) → getD image i 0 < 256) → (span : Span) (objects : ObjectRange) → Taken objects → (type before : ℕ)
+    (image : List ℕ) → ((i : ℕ) → getD image i 0 < 256) → (span : Span) (objects : ObjectRange) → Offered objects → (type before : ℕ)
     → before < length (choice (Reading span) image)
     → (nextReading type span objects image before .many ≡ 1)
     × Carries type span objects (getD (choice (Reading span) image) before []) (octetsOf (nextReading type span objects image before .message))
@@ -96,8 +89,10 @@ pub data Faulty (objects : ObjectRange) : Type 0 where
   first-after : objects .last < objects .first → Faulty objects
 
 -- "17 now exactly when ..; its place is unchanged": for a 122 or a 123 with such objects only, and for each, unless a rule of all messages applies before; so no
--- label is looked at and no reading is looked for
+-- label is looked at and no reading is looked for. The rule that is given then has this cause, with P/N 0
 pub record Seventeen : Type 0 where
+  pub its-cause : causeBy Objects ≡ 17
+  pub its-pn : pnBy Objects ≡ false
   pub only-so : (session : Session) (image clock : List ℕ) (r : Request) → causeBy (decide session image clock r) ≡ 17
       → (asksReadings (r .header .«type_id») ≡ true) × Faulty (r .objects)
   pub so : (session : Session) (image clock : List ℕ) (r : Request) → asksReadings (r .header .«type_id») ≡ true → Faulty (r .objects)
@@ -107,27 +102,27 @@ pub record Seventeen : Type 0 where
 abbrev pub asking : Header → ObjectRange → List ℕ → List ℕ
 asking header objects labels = headerOctets header ++ (objects .first ∷ objects .last ∷ labels)
 
--- two requests that differ in their objects only: the same records are chosen, and where both are taken the same rule applies and as many are given
+-- two requests that differ in their objects only: the same records are chosen, and where both are offered the same rule applies and as many are given
 pub record ChosenWhatever : Type 0 where
   pub same-choice : (header : Header) (a b : ObjectRange) (labels image : List ℕ) → asksReadings (header .«type_id») ≡ true
       → choice (Reading (spanOf (requestOf (asking header a labels)))) image ≡ choice (Reading (spanOf (requestOf (asking header b labels)))) image
-  pub same-rule : (header : Header) (a b : ObjectRange) (labels : List ℕ) → asksReadings (header .«type_id») ≡ true → Taken a → Taken b
+  pub same-rule : (header : Header) (a b : ObjectRange) (labels : List ℕ) → asksReadings (header .«type_id») ≡ true → Offered a → Offered b
       → (session : Session) (image clock : List ℕ)
       → decide session image clock (requestOf (asking header a labels)) ≡ decide session image clock (requestOf (asking header b labels))
-  pub same-number : (type : ℕ) (span : Span) (a b : ObjectRange) (image : List ℕ) (before : ℕ) → Taken a → Taken b
+  pub same-number : (type : ℕ) (span : Span) (a b : ObjectRange) (image : List ℕ) (before : ℕ) → Offered a → Offered b
       → nextReading type span a image before .many ≡ nextReading type span b image before .many
 
--- The request's cases, as one list: a range that is taken, with N and the octets between header and label, or one that is refused
+-- The request's cases, as one list: a range that is answered, with N and the octets between header and label, or one that is refused
 pub data RangeCase : Type 0 where
-  taken : (first last many : ℕ) → List ℕ → RangeCase
+  answered : (first last many : ℕ) → List ℕ → RangeCase
   refused : (first last : ℕ) → RangeCase
 
 abbrev pub rangeCases : List RangeCase
 rangeCases =
-    taken 1 2 2 (0x01 ∷ 0x14 ∷ 0x13 ∷ 0x12 ∷ 0x11 ∷ 0x15 ∷ 0x02 ∷ 0x24 ∷ 0x23 ∷ 0x22 ∷ 0x21 ∷ 0x25 ∷ [])
-    ∷ taken 6 6 1 (0x06 ∷ 0x64 ∷ 0x63 ∷ 0x62 ∷ 0x61 ∷ 0x65 ∷ [])
-    ∷ taken 3 3 1 (0x03 ∷ 0x34 ∷ 0x33 ∷ 0x32 ∷ 0x31 ∷ 0x35 ∷ [])
-    ∷ taken 1 6 6
+    answered 1 2 2 (0x01 ∷ 0x14 ∷ 0x13 ∷ 0x12 ∷ 0x11 ∷ 0x15 ∷ 0x02 ∷ 0x24 ∷ 0x23 ∷ 0x22 ∷ 0x21 ∷ 0x25 ∷ [])
+    ∷ answered 6 6 1 (0x06 ∷ 0x64 ∷ 0x63 ∷ 0x62 ∷ 0x61 ∷ 0x65 ∷ [])
+    ∷ answered 3 3 1 (0x03 ∷ 0x34 ∷ 0x33 ∷ 0x32 ∷ 0x31 ∷ 0x35 ∷ [])
+    ∷ answered 1 6 6
     (0x01 ∷ 0x14 ∷ 0x13 ∷ 0x12 ∷ 0x11 ∷ 0x15 ∷ 0x02 ∷ 0x24 ∷ 0x23 ∷ 0x22 ∷ 0x21 ∷ 0x25 ∷ 0x03 ∷ 0x34 ∷ 0x33 ∷ 0x32 ∷ 0x31 ∷ 0x35
     ∷ 0x04 ∷ 0x44 ∷ 0x43 ∷ 0x42 ∷ 0x41 ∷ 0x45 ∷ 0x05 ∷ 0x54 ∷ 0x53 ∷ 0x52 ∷ 0x51 ∷ 0x55 ∷ 0x06 ∷ 0x64 ∷ 0x63 ∷ 0x62 ∷ 0x61 ∷ 0x65 ∷ [])
     ∷ refused 0 6
@@ -164,11 +159,11 @@ abbrev pub givenFor : ℕ → ℕ → ℕ → ℕ → List Kept
 givenFor type address first last = collectedAfter (Open ourPoint) twoReadings (replicate 7 0) (allReadings type address first last 6) 4
 
 abbrev pub rangeGiven : ℕ → ℕ → RangeCase → List Kept
-rangeGiven type address (taken first last many carried) = givenFor type address first last
+rangeGiven type address (answered first last many carried) = givenFor type address first last
 rangeGiven type address (refused first last) = givenFor type address first last
 
 abbrev pub rangeWritten : ℕ → ℕ → ℕ → RangeCase → List Kept
-rangeWritten type address reply (taken first last many carried) =
+rangeWritten type address reply (answered first last many carried) =
     allReadings type address first last 7 ∷ readingWith reply address many carried ∷ allReadings type address first last 10 ∷ []
 rangeWritten type address reply (refused first last) = allReadings type address first last 17 ∷ []
 

@@ -7,8 +7,9 @@ use borrow.Author.Needs.{needs}
 use lib.ListN.{length}
 use Rattle.records.specs.Records.{recordAt}
 use Rattle.octets.specs.Keeping.{keptOf}
+use Rattle.message.specs.Calls.{Offered}
 use Rattle.message.specs.Requests.{objectsMany}
-use Rattle.message.proofs.Requests.{Offered, offered-so}
+use Rattle.message.proofs.Requests.{offered-so}
 use Rattle.data.specs.Messages.{replyHeader, objectsOctets, readingReply}
 use Rattle.data.proofs.Messages.{header-length}
 use Rattle.data.proofs.Written.{no-object-yet, with-object, with-label, label-of-key}
