@@ -95,33 +95,35 @@ static bool read_dates(struct meter_image *image, struct rest *rest)
             label_a_valid(image->dates + LABEL_A_OCTETS));
 }
 
-/* Where a reading or an event stands: "by point, record, label". The two are
-   not packed into one number because with a label b they need 67 bits. */
+/* Where a reading or an event stands: "by point, record, label", and labels by
+   their instants (document 02, #102). The two are not packed into one number:
+   with a label b they need 66 bits, and an instant may be negative. */
 struct position {
     uint32_t point_and_record;
-    uint64_t label;
+    int64_t instant;
 };
 
-/* Lower than every record's, for no point has the address 0. */
+/* Lower than every record's, whatever its instant, for no point has the
+   address 0. */
 static const struct position before_all = {0, 0};
 
-static struct position position_of(const uint8_t *body, uint64_t label)
+static struct position position_of(const uint8_t *body, int64_t instant)
 {
-    struct position position = {(uint32_t)number16(body) << 8 | body[2], label};
+    struct position position = {(uint32_t)number16(body) << 8 | body[2], instant};
 
     return position;
 }
 
 static bool equal(struct position a, struct position b)
 {
-    return a.point_and_record == b.point_and_record && a.label == b.label;
+    return a.point_and_record == b.point_and_record && a.instant == b.instant;
 }
 
 static bool lower(struct position a, struct position b)
 {
     if (a.point_and_record != b.point_and_record)
         return a.point_and_record < b.point_and_record;
-    return a.label < b.label;
+    return a.instant < b.instant;
 }
 
 /* "Points named in kinds 4 and 5 must be in kind 2." */
@@ -132,7 +134,9 @@ static bool names_a_point(const struct meter_image *image, const uint8_t *body)
     return image_point(image, address) != NULL;
 }
 
-/* "strictly rising by point, record, label" */
+/* "strictly rising by point, record, label". Two labels of one instant are not
+   rising: "two readings so labelled are still refused" (#102). Only a label that
+   is valid has an instant, so it is judged first. */
 static bool read_readings(struct meter_image *image, struct rest *rest)
 {
     struct record_table *table = &image->readings;
@@ -145,12 +149,13 @@ static bool read_readings(struct meter_image *image, struct rest *rest)
     table->label_a_at = READING_LABEL_AT;
     while ((body = take(rest, READING, READING_LENGTH)) != NULL) {
         const uint8_t *label = body + READING_LABEL_AT;
-        struct position here = position_of(body, label_a_rank(label));
+        struct position here;
 
         if (body[2] != PERIODS_RECORD && body[2] != TOTALS_RECORD)
             return false;
         if (!names_a_point(image, body) || !label_a_valid(label))
             return false;
+        here = position_of(body, label_a_instant(label));
         if (!lower(before, here))
             return false;
         before = here;
@@ -159,7 +164,8 @@ static bool read_readings(struct meter_image *image, struct rest *rest)
     return true;
 }
 
-/* "rising by point, record, label, equals allowed" */
+/* "rising by point, record, label, equals allowed"; two labels of one instant
+   are equals (#102). */
 static bool read_events(struct meter_image *image, struct rest *rest)
 {
     struct record_table *table = &image->events;
@@ -172,12 +178,13 @@ static bool read_events(struct meter_image *image, struct rest *rest)
     table->label_a_at = EVENT_LABEL_AT + LABEL_B_FRONT;
     while ((body = take(rest, EVENT, EVENT_LENGTH)) != NULL) {
         const uint8_t *label = body + EVENT_LABEL_AT;
-        struct position here = position_of(body, label_b_rank(label));
+        struct position here;
 
         if (!record_holds_events(body[2]))
             return false;
         if (!names_a_point(image, body) || !label_b_valid(label))
             return false;
+        here = position_of(body, label_b_instant(label));
         if (!lower(before, here) && !equal(before, here))
             return false;
         before = here;
@@ -219,7 +226,7 @@ bool record_holds_events(uint8_t record)
 static bool is_chosen(const struct record_table *table,
                       const struct choice *choice, const uint8_t *body)
 {
-    uint32_t minute = label_a_rank(body + table->label_a_at);
+    int32_t minute = label_a_instant(body + table->label_a_at);
 
     return number16(body) == choice->point.number &&
            body[2] == choice->record &&

@@ -57,12 +57,13 @@ const struct metering_point *image_point(const struct meter_image *image,
 bool record_holds_events(uint8_t record);
 
 /* "Chosen are records of that point and record address with
-   first <= label <= last, in image order." */
+   first <= label <= last, in image order." Document 02, #102, of comparing in
+   standard time: "Selection uses it too." */
 struct choice {
     struct point_address point;
     uint8_t record;
-    uint32_t first; /* ranks of labels a */
-    uint32_t last;
+    int32_t first; /* instants of labels a */
+    int32_t last;
 };
 
 /* Passes over the first `given` chosen records of the table and puts the

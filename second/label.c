@@ -8,15 +8,18 @@ static unsigned hour_of(const uint8_t *label) { return label[HOUR] & 0x1Fu; }
 static unsigned day_of(const uint8_t *label) { return label[DAY] & 0x1Fu; }
 static unsigned month_of(const uint8_t *label) { return label[MONTH] & 0x0Fu; }
 static unsigned year_of(const uint8_t *label) { return label[YEAR] & 0x7Fu; }
+static bool is_summer(const uint8_t *label) { return (label[HOUR] & 0x80u) != 0; }
+
+/* "00 to 99 for 2000 to 2099": 2000 is a leap year by the rule of 400, and the
+   span holds no other full century, so every fourth year is one. */
+static bool is_leap(unsigned year) { return year % 4 == 0; }
 
 static unsigned days_in(unsigned month, unsigned year)
 {
     static const uint8_t days[12] = {31, 28, 31, 30, 31, 30,
                                      31, 31, 30, 31, 30, 31};
 
-    /* "00 to 99 for 2000 to 2099": 2000 is a leap year by the rule of 400, and
-       the span holds no other full century, so every fourth year is one. */
-    if (month == 2 && year % 4 == 0)
+    if (month == 2 && is_leap(year))
         return 29;
     return days[month - 1];
 }
@@ -57,20 +60,32 @@ bool label_b_valid(const uint8_t *label)
            label_a_valid(label + LABEL_B_FRONT);
 }
 
-uint32_t label_a_rank(const uint8_t *label)
+/* Whole days from 1 January 2000 to the label's day, on the clock's face. */
+static unsigned days_before(const uint8_t *label)
 {
-    uint32_t rank = year_of(label);
+    static const uint16_t months[12] = {0, 31, 59, 90, 120, 151,
+                                        181, 212, 243, 273, 304, 334};
+    unsigned year = year_of(label);
+    unsigned month = month_of(label);
+    /* 2000 is the first leap year of the span, so one day from 2001 on, two from
+       2005 on; the year's own counts once its February is over. */
+    unsigned leap_days = (year + 3) / 4 + (month > 2 && is_leap(year));
 
-    rank = rank << 4 | month_of(label);
-    rank = rank << 5 | day_of(label);
-    rank = rank << 5 | hour_of(label);
-    return rank << 6 | minute_of(label);
+    return 365 * year + leap_days + months[month - 1] + day_of(label) - 1;
 }
 
-uint64_t label_b_rank(const uint8_t *label)
+/* "with SU 1 the label counts one hour earlier" */
+int32_t label_a_instant(const uint8_t *label)
 {
-    uint64_t rank = label_a_rank(label + LABEL_B_FRONT);
+    unsigned face = (days_before(label) * 24 + hour_of(label)) * 60 + minute_of(label);
 
-    rank = rank << 6 | seconds_of(label);
-    return rank << 10 | milliseconds_of(label);
+    return (int32_t)face - (is_summer(label) ? 60 : 0);
+}
+
+/* Second and millisecond are behind the minute, whatever SU is. */
+int64_t label_b_instant(const uint8_t *label)
+{
+    int64_t minute = label_a_instant(label + LABEL_B_FRONT);
+
+    return minute * 60000 + seconds_of(label) * 1000 + milliseconds_of(label);
 }

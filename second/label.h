@@ -17,9 +17,11 @@ enum {
 bool label_a_valid(const uint8_t *label);
 bool label_b_valid(const uint8_t *label);
 
-/* "Labels are compared by year, month, day, hour, minute, and b also by second
-   and millisecond": numbers that rise exactly as valid labels do. */
-uint32_t label_a_rank(const uint8_t *label);
-uint64_t label_b_rank(const uint8_t *label);
+/* Document 02, #102: "Labels a and b are compared in standard time". The instant
+   of a label that is valid: minutes (label a) or milliseconds (label b) of
+   standard time from 1 January 2000 00:00. It is signed: "A summer label in the
+   first hour of 2000 lies before the year's start and must still compare." */
+int32_t label_a_instant(const uint8_t *label);
+int64_t label_b_instant(const uint8_t *label);
 
 #endif

@@ -76,8 +76,8 @@ struct choice message_choice(const uint8_t *request)
 {
     const uint8_t *first = request + first_label_at(request);
     struct choice choice = {message_point(request), request[RECORD_AT],
-                            label_a_rank(first),
-                            label_a_rank(first + LABEL_A_OCTETS)};
+                            label_a_instant(first),
+                            label_a_instant(first + LABEL_A_OCTETS)};
 
     return choice;
 }
@@ -130,14 +130,15 @@ static struct verdict judge_open(const uint8_t *request,
     return mirror(session, CAUSE_CONFIRMED, !right);
 }
 
-/* "A label not valid, first after last" */
+/* "A label not valid, first after last"; document 02, #102: "8 and 18 use the new
+   comparison". */
 static bool span_real(const uint8_t *request)
 {
     const uint8_t *first = request + first_label_at(request);
     const uint8_t *last = first + LABEL_A_OCTETS;
 
     return label_a_valid(first) && label_a_valid(last) &&
-           label_a_rank(first) <= label_a_rank(last);
+           label_a_instant(first) <= label_a_instant(last);
 }
 
 static bool any_chosen(const struct record_table *table, const uint8_t *request)

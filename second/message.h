@@ -78,7 +78,7 @@ struct verdict message_judge(const uint8_t *request, size_t length,
                              const struct meter_image *image,
                              const uint8_t *clock);
 
-/* Of a request of type 102, 122 or 123 of its listed length. */
+/* Of a request of type 102, 122 or 123 of its listed length with valid labels. */
 struct choice message_choice(const uint8_t *request);
 
 /* Document 02, #101: "any first and last with 1 <= first <= last <= 6". */

@@ -5,6 +5,7 @@ from collections import Counter
 FIXED_REPLIES = {0x00: "ACK", 0x01: "NACK", 0x09: "nothing (09)", 0x0B: "status (0B)"}
 REPLY_TYPES = (1, 8, 11, 71, 72, 131)
 READING_TYPES, OBJECTS, OBJECT_OCTETS = (8, 11), range(1, 7), 6
+EVENTS_TYPE, EVENT_OCTETS = 1, 9
 REQUEST_TYPES = (100, 102, 103, 122, 123, 181, 183, 185, 186, 187)
 CAUSES = ("7", "7 P/N", "10", "13", "14", "15", "16", "17", "18")
 FAULTS = ("version", "image", "cut", "call")
@@ -26,6 +27,13 @@ def number_of_line(face, fields):
     return fields[1] if face == "print" else fields[0]
 
 
+def hours_of_labels(reply):
+    """The hour octets of the labels that a type 1, 8 or 11 carries, each the fourth octet from its label's end."""
+    if reply[7] == EVENTS_TYPE:
+        return reply[13 + EVENT_OCTETS - 4:-2:EVENT_OCTETS]
+    return reply[-6:-5] if reply[7] in READING_TYPES else b""
+
+
 class Coverage:
     """Counters of both faces together, and of each for result numbers and faults."""
 
@@ -36,6 +44,8 @@ class Coverage:
         self.orders = Counter()
         self.replies = Counter()    # fixed replies by name, data replies by type
         self.objects = Counter()    # of readings, by type, first and last object
+        self.labels = Counter()     # of readings and events, by type and SU
+        self.changed = 0            # type 1 in which SU changes
         self.mirrors = Counter()    # by request type and cause
         self.most_octets = 0
 
@@ -65,6 +75,10 @@ class Coverage:
             last = 13 + OBJECT_OCTETS * (reply[8] - 1)
             if reply[7] in READING_TYPES and last < len(reply):
                 self.objects[reply[7], reply[13], reply[last]] += 1
+            summers = [hour >> 7 for hour in hours_of_labels(reply)]
+            for summer in summers:
+                self.labels[reply[7], summer] += 1
+            self.changed += len(set(summers)) > 1
         else:
             cause = str(reply[9] & CAUSE_BITS) + (" P/N" if reply[9] & P_N else "")
             self.mirrors[reply[7] if reply[7] in REQUEST_TYPES else "other", cause] += 1
@@ -80,6 +94,10 @@ class Coverage:
             rows.append(f"| {reply if isinstance(reply, str) else f'type {reply}'} | {self.replies[reply]} |")
         for order in ("clock", "dates"):
             rows.append(f"| order {order} | {self.orders[order]} |")
+        rows += ["", "| labels of | SU 0 | SU 1 |", "|---|---|---|"]
+        for kind in (EVENTS_TYPE, *READING_TYPES):
+            rows.append(f"| type {kind} | {self.labels[kind, 0]} | {self.labels[kind, 1]} |")
+        rows.append(f"| type 1 with both | {self.changed} | |")
         for kind in READING_TYPES:
             rows += ["", f"| type {kind} from, to | " + " | ".join(map(str, OBJECTS)) + " |", "|---" * (len(OBJECTS) + 1) + "|"]
             for first in OBJECTS:

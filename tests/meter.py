@@ -4,12 +4,15 @@ from dataclasses import dataclass, field, replace
 from functools import cached_property
 from typing import NamedTuple, Optional
 
-from wire import (EVENT_RECORDS, LABEL_A_SPOILS, LABEL_B_SPOILS, LAST_MINUTE, label_a, label_b, minute_of,
-                  spoil_label_a, spoil_label_b)
+from wire import (AUTUMN_2001, CHANGES, EVENT_RECORDS, FIRST_MINUTE, LABEL_A_SPOILS, LABEL_B_SPOILS, LAST_MINUTE,
+                  SPRING_2001, SUMMER_HOUR, face_label_a, is_summer, label_a, label_b, minute_of, spoil_label_a,
+                  spoil_label_b, summers)
 
 READING_RECORDS = (11, 21)
 MOST_POINTS = 8
+FIRST_MILLISECOND = FIRST_MINUTE * 60_000
 LAST_MILLISECOND = LAST_MINUTE * 60_000 + 59_999
+LAST_SUMMER_MILLISECOND = LAST_MILLISECOND - SUMMER_HOUR * 60_000
 
 
 class Reading(NamedTuple):
@@ -95,18 +98,36 @@ def random_octets(chance, length):
 
 
 def random_minute(chance):
-    if chance.random() < 0.3:
-        return chance.randint(0, LAST_MINUTE)
-    near = chance.choice(BORDERS) + chance.randint(-20, 20)
-    return min(max(near, 0), LAST_MINUTE)
+    """Often on a day on which the clock is changed, in the first hours of 2000, or at a border or an hour before it."""
+    way = chance.random()
+    if way < 0.2:
+        return chance.randint(FIRST_MINUTE, LAST_MINUTE)
+    if way < 0.6:
+        near = chance.choice((AUTUMN_2001, *chance.choices(CHANGES, k=3))) + chance.randint(-130, 70)
+    elif way < 0.7:
+        near = chance.randint(FIRST_MINUTE, 70)
+    else:
+        near = chance.choice(BORDERS) - chance.choice((0, SUMMER_HOUR)) + chance.randint(-20, 20)
+    return min(max(near, FIRST_MINUTE), LAST_MINUTE)
 
 
-def random_label_a(chance, minute):
-    return label_a(minute, chance.randint(0, 7), chance.randint(0, 1))
+def random_clock_face(chance):
+    """How one clock shows minutes: SU by the calendar, anyhow, or always the same."""
+    always = chance.randint(0, 1)
+    return chance.choice((is_summer, is_summer, lambda minute: chance.randint(0, 1), lambda minute: always))
 
 
-def random_label_b(chance, millisecond):
-    return label_b(millisecond, chance.randint(0, 7), chance.randint(0, 1))
+def random_summer(chance, minute, summer=None):
+    """This SU, or any if none is given, where a label can have it."""
+    return summer if summer in summers(minute) else chance.choice(summers(minute))
+
+
+def random_label_a(chance, minute, summer=None):
+    return label_a(minute, chance.randint(0, 7), random_summer(chance, minute, summer))
+
+
+def random_label_b(chance, millisecond, summer=None):
+    return label_b(millisecond, chance.randint(0, 7), random_summer(chance, millisecond // 60_000, summer))
 
 
 def rising(chance, count, start, steps, most):
@@ -129,14 +150,17 @@ def random_value(chance):
 
 def random_readings(chance, point, record, count):
     minutes = rising(chance, count, random_minute(chance), MINUTE_STEPS, LAST_MINUTE)
-    return [Reading(point, record, minute, random_label_a(chance, minute),
+    face = random_clock_face(chance)
+    return [Reading(point, record, minute, random_label_a(chance, minute, face(minute)),
                     b"".join(random_value(chance) for _ in range(6))) for minute in minutes]
 
 
 def random_events(chance, point, record, count):
     start = random_minute(chance) * 60_000 + chance.choice((0, 1, 999, 1000, 59_998, 59_999))
     times = rising(chance, count, start, MILLISECOND_STEPS, LAST_MILLISECOND)
-    return [Event(point, record, time, random_label_b(chance, time), random_octets(chance, 2)) for time in times]
+    face = random_clock_face(chance)
+    return [Event(point, record, time, random_label_b(chance, time, face(time // 60_000)), random_octets(chance, 2))
+            for time in times]
 
 
 def random_dates(chance):
@@ -158,7 +182,8 @@ def random_link(chance, points):
 
 
 def in_order(records):
-    """Readings by point, record, minute; events by point, record, millisecond, equals as they come."""
+    """Readings by point, record, minute; events by point, record, millisecond, equals as they come. Whatever SU is:
+    minutes and milliseconds are those of standard time."""
     return tuple(sorted(records, key=lambda entry: entry[:3]))
 
 
@@ -205,6 +230,15 @@ def more_events(chance, meter):
     return in_order([*meter.events, *added, *doubled])
 
 
+def relabelled(chance, meter):
+    """The same instants as another clock shows them."""
+    return replace(meter,
+                   readings=tuple(entry._replace(label=random_label_a(chance, entry.minute))
+                                  for entry in meter.readings),
+                   events=tuple(entry._replace(label=random_label_b(chance, entry.millisecond))
+                                for entry in meter.events))
+
+
 def without_point(meter, point):
     return replace(meter, points={address: password for address, password in meter.points.items() if address != point},
                    readings=tuple(entry for entry in meter.readings if entry.point != point),
@@ -213,13 +247,16 @@ def without_point(meter, point):
 
 def exchanged(chance, meter, session=None):
     """Another image, as the meter's own life or a careless host could make it."""
-    way = chance.choice(("dates", "dates", "fewer", "fewer", "more", "more", "point", "link", "password", "identity"))
+    way = chance.choice(("dates", "dates", "fewer", "fewer", "more", "more", "labels", "point", "link", "password",
+                         "identity"))
     if way == "dates":
         return replace(meter, dates=None if meter.dates else random_dates(chance))
     if way == "fewer":
         return replace(meter, readings=some_of(chance, meter.readings), events=some_of(chance, meter.events))
     if way == "more":
         return replace(meter, readings=more_readings(chance, meter), events=more_events(chance, meter))
+    if way == "labels":
+        return relabelled(chance, meter)
     if way == "point" and len(meter.points) > 1:
         gone = session if session in meter.points and chance.random() < 0.7 else chance.choice(sorted(meter.points))
         return without_point(meter, gone)
@@ -287,6 +324,60 @@ def overfull_meter():
     event = Event(2, 129, 0, label_b(0), b"\x01\x02")
     return replace(meter, points={address: address for address in range(1, 6)},
                    dates=label_a(0) + label_a(LAST_MINUTE), events=(event, event))
+
+
+# ---- days on which the clock is changed, and pairs of labels ----
+
+def meter_of_moments(moments, more=0):
+    """One point with a reading of each record and an event for each (minute, SU), in the order given, sound or not. The
+    events lie inside their minutes, each by so many milliseconds more than the one behind it."""
+    readings = [Reading(1, record, minute, label_a(minute, 7, summer), bytes([place]) * 30)
+                for record in READING_RECORDS for place, (minute, summer) in enumerate(moments)]
+    events = []
+    for place, (minute, summer) in enumerate(moments):
+        time = minute * 60_000 + 500 + more * (len(moments) - 1 - place)
+        events.append(Event(1, 52, time, label_b(time, 7, summer), bytes([place, 0x80])))
+    return Meter(9, readings=tuple(readings), events=tuple(events))
+
+
+def moments_of(minutes):
+    """As a clock shows them that is changed in March and October."""
+    return [(minute, is_summer(minute)) for minute in minutes]
+
+
+def day_of_change(change):
+    """The quarters of this day from 00:15 to 00:00 of the next on the clock's face, 23 hours in spring and 25 in
+    autumn: then 02:00 to 02:45 come with SU 1 and again with SU 0."""
+    begin = change - 120 - SUMMER_HOUR * is_summer(change - 1)
+    end = change + 22 * 60 - SUMMER_HOUR * is_summer(change)
+    return moments_of(range(begin + 15, end + 1, 15))
+
+
+# Borders on the clock's face on both sides of which labels are compared with each other, with SU 0 and 1.
+FACE_BORDERS = {
+    "midnight": minute_of(2010, 6, 2),
+    "a month": minute_of(2010, 7, 1),
+    "a year": minute_of(2011, 1, 1),
+    "a leap day": minute_of(2004, 2, 29),
+    "the day behind a leap day": minute_of(2004, 3, 1),
+    "1 March": minute_of(2005, 3, 1),
+    "the start of 2000": 0,
+    "the end of 2099": LAST_MINUTE + 1,
+    "02:00 in autumn": AUTUMN_2001,
+    "03:00 in spring": SPRING_2001 + SUMMER_HOUR,
+}
+
+
+def moments_around(border):
+    """(minute, SU) of the faces a minute and an hour on both sides of a border, as far as there are such labels, from
+    the earliest on. Some instants come twice, with either SU."""
+    faces = [face for face in (border - 60, border - 1, border, border + 59, border + 60) if 0 <= face <= LAST_MINUTE]
+    return sorted((face - SUMMER_HOUR * summer, summer) for face in faces for summer in (0, 1))
+
+
+def moments_apart(moments):
+    """One of each instant, for readings: with SU 1 where there are two."""
+    return sorted(dict(moments).items())
 
 
 # ---- unsound images by each rule ----
@@ -406,10 +497,46 @@ def wrong_order(records):
     first = places(records, 4)[0]
     reading = records[first]
     yield "equal readings", image_of(records[:first] + [reading] + records[first:])
-    for name, place, bit in (("SU", 5, 0x80), ("weekday", 6, 0x20)):
-        twin = reading[:place] + bytes([reading[place] ^ bit]) + reading[place + 1:]
-        yield f"readings equal but for {name}", image_of(records[:first] + [twin] + records[first:])
-        yield f"readings equal but for {name}, behind", image_of(records[:first + 1] + [twin] + records[first + 1:])
+    twin = reading[:6] + bytes([reading[6] ^ 0x20]) + reading[7:]
+    yield "readings equal but for the weekday", image_of(records[:first] + [twin] + records[first:])
+    yield "readings equal but for the weekday, behind", image_of(records[:first + 1] + [twin] + records[first + 1:])
+
+
+def images_by_moments(name, moments):
+    """The readings and the events of these moments, each alone in an image."""
+    meter = meter_of_moments(moments)
+    yield f"readings, {name}", replace(meter, events=()).octets
+    yield f"events, {name}", replace(meter, readings=()).octets
+
+
+def wrong_instants():
+    """Labels out of order in standard time, and two of one instant."""
+    autumn, spring = AUTUMN_2001, SPRING_2001
+    quarters = range(0, 60, 15)
+    yield from images_by_moments("autumn hour with SU 0 first", [(autumn + step, 0) for step in quarters]
+                                 + [(autumn - SUMMER_HOUR + step, 1) for step in quarters])
+    yield from images_by_moments("02:15 SU 0, 02:15 SU 1", [(autumn + 15, 0), (autumn - 45, 1)])
+    yield from images_by_moments("03:00 SU 1, 01:45 SU 0 in spring", [(spring, 1), (spring - 15, 0)])
+    yield from images_by_moments("00:00 SU 0, 00:15 SU 1 in 2000", [(0, 0), (-45, 1)])
+    for name, instant in (("autumn", autumn + 15), ("spring", spring), ("2000", 0), ("2099", LAST_MINUTE - 60)):
+        for one, other in ((0, 1), (1, 0)):
+            same = [(instant, one), (instant, other)]
+            yield f"readings of one instant, SU {one} first, {name}", replace(meter_of_moments(same), events=()).octets
+            yield (f"events of one minute, the earlier behind, SU {one} first, {name}",
+                   replace(meter_of_moments(same, 1), readings=()).octets)
+
+
+def right_instants():
+    """The same labels the other way round."""
+    for name, change in (("autumn", AUTUMN_2001), ("spring", SPRING_2001)):
+        yield from images_by_moments(f"{name} day", day_of_change(change))
+    yield from images_by_moments("02:15 SU 1, 02:15 SU 0", [(AUTUMN_2001 - 45, 1), (AUTUMN_2001 + 15, 0)])
+    yield from images_by_moments("01:45 SU 0, 03:00 SU 1 in spring", [(SPRING_2001 - 15, 0), (SPRING_2001, 1)])
+    yield from images_by_moments("00:15 SU 1, 00:00 SU 0 in 2000", [(-45, 1), (0, 0)])
+    for instant in (AUTUMN_2001 + 15, SPRING_2001, 0, LAST_MINUTE - 60):
+        for one, other in ((0, 1), (1, 0)):
+            same = meter_of_moments([(instant, one), (instant, other)])
+            yield f"events of one instant {instant}, SU {one} first", replace(same, readings=()).octets
 
 
 def ends(image):
@@ -429,6 +556,7 @@ def unsound_images(meter):
     yield from ends(meter.octets)
     for family in (wrong_lengths, wrong_kinds, wrong_points, wrong_labels, wrong_places, wrong_order):
         yield from family(records)
+    yield from wrong_instants()
 
 
 def sound_images(meter):
@@ -444,10 +572,11 @@ def sound_images(meter):
     yield "events only", replace(meter, readings=(), dates=None).octets
     yield "readings only", replace(meter, events=(), dates=None).octets
     for minute in (0, LAST_MINUTE, minute_of(2000, 2, 29), minute_of(2096, 2, 29), minute_of(2001, 4, 30, 23, 59)):
-        yield f"date {minute}", replace(bare, dates=label_a(minute, 7, 1) + label_a(minute)).octets
+        yield f"date {minute}", replace(bare, dates=face_label_a(minute, 7, 1) + face_label_a(minute)).octets
     yield "equal events", meter_of_events(30).octets
     yield "events by millisecond", meter_of_events(30, step=1).octets
     yield "events by second", meter_of_events(30, step=1000).octets
+    yield from right_instants()
 
 
 RICH = rich_meter()

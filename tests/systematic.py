@@ -8,15 +8,18 @@ from dataclasses import replace
 
 from generate import conversation
 from lines import DriveLine, PrintLine
-from meter import (LAST_MILLISECOND, RICH, UNSOUND, Meter, fullest_meter, meter_of_events, meter_of_objects,
-                   meter_of_readings, overfull_meter, sound_images, without_point)
-from wire import (CLASS_2, CLOCK, CLOSE, DATES, EVENT_RECORDS, EVENTS, FCB, IDENTITY, LABEL_A_SPOILS, LABEL_B_SPOILS,
-                  LAST_MINUTE, OBJECT_RANGES, PERIODS, RESET, ROWS, SET_CLOCK, SET_DATES, STATUS, TOTALS, USER_DATA,
-                  Request, events_request, fixed, label_a, label_b, low_first, minute_of, open_request,
-                  readings_request, spoil_label_a, spoil_label_b, variable)
+from meter import (FACE_BORDERS, LAST_MILLISECOND, LAST_SUMMER_MILLISECOND, RICH, UNSOUND, Meter, day_of_change,
+                   fullest_meter, meter_of_events, meter_of_moments, meter_of_objects, meter_of_readings, moments_apart,
+                   moments_around, moments_of, overfull_meter, sound_images, without_point)
+from wire import (AUTUMN_2001, CLASS_2, CLOCK, CLOSE, DATES, EVENT_RECORDS, EVENTS, FCB, FIRST_MINUTE, IDENTITY,
+                  LABEL_A_SPOILS, LABEL_B_SPOILS, LAST_MINUTE, OBJECT_RANGES, PERIODS, RESET, ROWS, SET_CLOCK,
+                  SET_DATES, SPRING_2001, STATUS, TOTALS, USER_DATA, Request, events_request, face_label_a, fixed,
+                  label_a, label_b, low_first, minute_of, open_request, readings_request, spoil_label_a, spoil_label_b,
+                  summers, variable)
 
 NOON = label_b(minute_of(2026, 11, 15, 12) * 60_000 + 1234)
-FIRST_LABEL, LAST_LABEL = label_a(0), label_a(LAST_MINUTE)
+# The first and the last label of all in standard time.
+FIRST_LABEL, LAST_LABEL = label_a(FIRST_MINUTE, 0, 1), label_a(LAST_MINUTE)
 BARE = Meter()  # the image of the paper's example
 
 
@@ -69,20 +72,25 @@ class Talk:
         return self.line.octets()
 
 
+def range_request(point, record, first, last):
+    """122, 123 or 102, as the record needs it."""
+    if record in EVENT_RECORDS:
+        return events_request(point, record, first, last)
+    return readings_request(TOTALS if record == 21 else PERIODS, point, first, last)
+
+
 def whole(point, record):
     """A request for everything of a record."""
-    if record in EVENT_RECORDS:
-        return events_request(point, record, FIRST_LABEL, LAST_LABEL)
-    return readings_request(TOTALS if record == 21 else PERIODS, point, FIRST_LABEL, LAST_LABEL)
+    return range_request(point, record, FIRST_LABEL, LAST_LABEL)
 
 
 def accepted_requests(point):
     """One accepted request of each type, for the rich meter."""
-    label = label_a(minute_of(2021, 6, 30, 23, 59), 3, 1)
+    label = face_label_a(minute_of(2021, 6, 30, 23, 59), 3, 1)
     yield Request(IDENTITY, point)
     yield Request(CLOCK, point)
     yield Request(DATES, point)
-    yield Request(SET_CLOCK, point, body=label_b(LAST_MILLISECOND, 5, 1))
+    yield Request(SET_CLOCK, point, body=label_b(LAST_SUMMER_MILLISECOND, 5, 1))
     yield Request(SET_DATES, point, body=label + FIRST_LABEL)
     yield open_request(point, RICH.points[point])
     for record in (*EVENT_RECORDS, 11, 21):
@@ -384,13 +392,61 @@ def ranges(face):
         for first in minutes + far:
             for last in minutes + far:
                 talk.open()
-                labels = label_a(first, 7, 1), label_a(last, 0, 0)
-                if record in EVENT_RECORDS:
-                    talk.ask(events_request(0x102, record, *labels))
-                else:
-                    talk.ask(readings_request(TOTALS if record == 21 else PERIODS, 0x102, *labels))
+                talk.ask(range_request(0x102, record, label_a(first, 7, summers(first)[-1]), label_a(last, 0, 0)))
                 talk.collect(7)
         yield f"ranges of record {record}", talk.octets()
+
+
+# ---- labels in standard time ----
+
+CHANGED_DAYS = {"autumn": AUTUMN_2001, "spring": SPRING_2001}
+MOMENTS_RECORDS = (11, 21, 52)  # those that `meter_of_moments` has
+
+
+def days_of_change(face):
+    """The whole day on which the clock is changed, asked for by its own first and last label and with everything."""
+    for name, change in CHANGED_DAYS.items():
+        moments = day_of_change(change)
+        first, last = (label_a(minute, 7, summer) for minute, summer in (moments[0], moments[-1]))
+        talk = Talk(face, meter_of_moments(moments))
+        talk.open()
+        for record in MOMENTS_RECORDS:
+            for request in (range_request(1, record, first, last), whole(1, record)):
+                talk.ask(request)
+                talk.collect(6 if record in EVENT_RECORDS else len(moments) + 3)
+        yield f"{name} day", talk.octets()
+
+
+def ranges_over_changes(face):
+    """Every range between the half hours around the change, each end with SU 0 and with SU 1."""
+    for name, change in CHANGED_DAYS.items():
+        moments = moments_of(range(change - 120, change + 120, 30))
+        labels = [face_label_a(change + step, 7, summer) for step in range(-30, 91, 30) for summer in (0, 1)]
+        for record in MOMENTS_RECORDS:
+            talk = Talk(face, meter_of_moments(moments))
+            talk.open()
+            for first in labels:
+                for last in labels:
+                    talk.ask(range_request(1, record, first, last))
+                    talk.collect(3 if record in EVENT_RECORDS else len(moments) + 2)
+            yield f"ranges in {name}, record {record}", talk.octets()
+
+
+def pairs_of_labels(face):
+    """Every pair of labels around each border as first and last of a range, with these labels in the image."""
+    for place, (name, border) in enumerate(FACE_BORDERS.items()):
+        around = moments_around(border)
+        apart = moments_apart(around)
+        meter = replace(meter_of_moments(around), readings=meter_of_moments(apart).readings)
+        labels = [label_a(minute, 7, summer) for minute, summer in around]
+        for record, replies in ((52, 3), ((11, 21)[place % 2], len(apart) + 2)):
+            talk = Talk(face, meter)
+            talk.open()
+            for first in labels:
+                for last in labels:
+                    talk.ask(range_request(1, record, first, last))
+                    talk.collect(replies)
+            yield f"labels around {name}, record {record}", talk.octets()
 
 
 # ---- ranges of objects ----
@@ -505,7 +561,8 @@ def long_conversation(face):
 def both_faces(face):
     for family in (count_bit, control_octets, lengths_of_frames, damaged_frames, requests_accepted, requests_refused,
                    headers, rule_pairs, sessions, labels_set, labels_asked, ranges, object_ranges, object_pairs,
-                   objects_and_labels, many_events, many_readings, fullest_images, clocks):
+                   days_of_change, ranges_over_changes, pairs_of_labels, objects_and_labels, many_events,
+                   many_readings, fullest_images, clocks):
         yield from family(face)
 
 
@@ -610,6 +667,36 @@ def sound_lent():
         yield f"image: {name}", line.octets()
 
 
+def neighbours_lent():
+    """Every pair of labels around each border as neighbours in an image: two readings; two events at the same place in
+    their minutes, and the first of them a millisecond or 59 seconds later."""
+    for name, border in FACE_BORDERS.items():
+        line = DriveLine(None, BARE.octets, NOON)
+        around = moments_around(border)
+        for first in around:
+            for last in around:
+                for more in (0, 1, 59_000):
+                    meter = meter_of_moments((first, last), more)
+                    if more == 0:
+                        line.borrow_image(replace(meter, events=()).octets)
+                        line.gap()
+                    line.borrow_image(replace(meter, readings=()).octets)
+                    line.gap()
+        yield f"neighbours around {name}", line.octets()
+
+
+def months_lent():
+    """The labels around the start of every month from 2000 on, in their order, in one image for each."""
+    line = DriveLine(None, BARE.octets, NOON)
+    for year in range(2000, 2100):
+        for month in range(1, 13):
+            around = moments_around(minute_of(year, month, 1))
+            readings = meter_of_moments(moments_apart(around)).readings
+            line.borrow_image(replace(meter_of_moments(around), readings=readings).octets)
+            line.gap()
+    yield "starts of months", line.octets()
+
+
 def variations(meter):
     """Images that a transfer may be continued from."""
     yield "the same", meter
@@ -703,8 +790,9 @@ def systematic_inputs():
                    lambda: long_conversation("print")):
         for name, octets in family():
             yield "print", name, octets
-    for family in (drive_faults, short_buffers, kept_runs, unsound_lent, sound_lent, exchanged_images, grown_images,
-                   exchanged_objects, lambda: both_faces("drive"), lambda: long_conversation("drive"), damaged_count):
+    for family in (drive_faults, short_buffers, kept_runs, unsound_lent, sound_lent, neighbours_lent, months_lent,
+                   exchanged_images, grown_images, exchanged_objects, lambda: both_faces("drive"),
+                   lambda: long_conversation("drive"), damaged_count):
         for name, octets in family():
             yield "drive", name, octets
 

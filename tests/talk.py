@@ -5,13 +5,13 @@ believes open and how many replies it believes to wait. It does not know what th
 is wrong the conversation goes on all the same, and the next reset puts it right.
 """
 
-from meter import (LAST_MILLISECOND, exchanged, random_label_a, random_label_b, random_meter, random_minute,
-                   random_octets)
-from wire import (ALL_OBJECTS, CLASS_2, CLOCK, CLOSE, DATES, EVENT_RECORDS, EVENTS, FCB, IDENTITY, LABEL_A_SPOILS,
-                  LABEL_B_SPOILS, LAST_MINUTE, LONGEST_RUN, MOST_USER_OCTETS, OBJECT_RANGES, OFFERED_FIXED,
-                  OFFERED_VARIABLE, OPEN, PERIODS, RESET, ROWS, SET_CLOCK, SET_DATES, STATUS, TOTALS, USER_DATA,
-                  Request, events_request, fixed, is_frame, open_request, readings_request, spoil_label_a,
-                  spoil_label_b, variable)
+from meter import (FIRST_MILLISECOND, LAST_MILLISECOND, exchanged, random_label_a, random_label_b, random_meter,
+                   random_minute, random_octets)
+from wire import (ALL_OBJECTS, CLASS_2, CLOCK, CLOSE, DATES, EVENT_RECORDS, EVENTS, FCB, FIRST_MINUTE, IDENTITY,
+                  LABEL_A_SPOILS, LABEL_B_SPOILS, LAST_MINUTE, LONGEST_RUN, MOST_USER_OCTETS, OBJECT_RANGES,
+                  OFFERED_FIXED, OFFERED_VARIABLE, OPEN, PERIODS, RESET, ROWS, SET_CLOCK, SET_DATES, STATUS,
+                  SUMMER_HOUR, TOTALS, USER_DATA, Request, events_request, fixed, is_frame, open_request,
+                  readings_request, spoil_label_a, spoil_label_b, variable)
 
 MOST_EVENTS_IN_A_MESSAGE = 27
 ALL_LABEL_B_SPOILS = (*LABEL_A_SPOILS, *LABEL_B_SPOILS)
@@ -23,7 +23,8 @@ SPANNED = {TOTALS: 21, PERIODS: 11}
 
 
 def random_clock(chance):
-    clock = random_label_b(chance, chance.choice((0, LAST_MILLISECOND, chance.randint(0, LAST_MILLISECOND))))
+    clock = random_label_b(chance, chance.choice((FIRST_MILLISECOND, 0, LAST_MILLISECOND,
+                                                  chance.randint(FIRST_MILLISECOND, LAST_MILLISECOND))))
     return spoil_label_b(clock, chance.choice(ALL_LABEL_B_SPOILS)) if chance.random() < 0.25 else clock
 
 
@@ -177,17 +178,17 @@ class Centre:
         return self.chance.choice((*self.meter.points, *near))
 
     def span(self, minutes):
-        """Two labels around some of these minutes: each at, just before or just after one of them."""
+        """First and last minute around some of these: each at, just before or just after one of them, or an hour."""
         chance = self.chance
         if not minutes or self.often(0.05):
-            first, last = chance.choice(((0, LAST_MINUTE), (random_minute(chance), random_minute(chance))))
+            first, last = chance.choice(((FIRST_MINUTE, LAST_MINUTE), (random_minute(chance), random_minute(chance))))
         else:
             first, last = sorted((chance.choice(minutes), chance.choice(minutes)))
             if self.often(0.4):
                 first, last = minutes[0], minutes[-1]
-            first += chance.choice((-1, 0, 0, 0, 1, -15, -1440))
-            last += chance.choice((-1, 0, 0, 0, 1, 15, 1440))
-        return min(max(first, 0), LAST_MINUTE), min(max(last, 0), LAST_MINUTE)
+            first += chance.choice((-1, 0, 0, 0, 1, -15, -SUMMER_HOUR, SUMMER_HOUR, -1440))
+            last += chance.choice((-1, 0, 0, 0, 1, 15, -SUMMER_HOUR, SUMMER_HOUR, 1440))
+        return tuple(min(max(minute, FIRST_MINUTE), LAST_MINUTE) for minute in (first, last))
 
     def spanned_request(self, kind, point):
         """102, 122 or 123, and how many replies it should leave waiting."""
@@ -214,7 +215,8 @@ class Centre:
         if kind in (EVENTS, TOTALS, PERIODS):
             return self.spanned_request(kind, point)
         if kind == SET_CLOCK:
-            return Request(kind, point, body=random_label_b(chance, chance.randint(0, LAST_MILLISECOND))), 1
+            millisecond = chance.randint(FIRST_MILLISECOND, LAST_MILLISECOND)
+            return Request(kind, point, body=random_label_b(chance, millisecond)), 1
         if kind == SET_DATES:
             return Request(kind, point, body=random_label_a(chance, random_minute(chance))
                            + random_label_a(chance, random_minute(chance))), 1
@@ -273,6 +275,12 @@ class Centre:
             front = len(request.body) - 10
             request.body = request.body[:front] + request.body[front + 5:] + request.body[front:front + 5]
 
+    def spoil_summer(self, request):
+        """The other SU at one end of the range, which moves it by an hour and may leave it right."""
+        if len(request.body) in (10, 12):
+            at = len(request.body) - self.chance.choice((10, 5)) + 1
+            request.body = request.body[:at] + bytes([request.body[at] ^ 0x80]) + request.body[at + 1:]
+
     def spoil_password(self, request):
         if request.kind == OPEN and len(request.body) == 4:
             at = self.chance.randrange(4)
@@ -282,9 +290,9 @@ class Centre:
     HEADER_SPOILS = (spoil_mark, spoil_type, spoil_point, spoil_point, spoil_structure, spoil_length, spoil_cause,
                      spoil_record, spoil_record)
     BODY_SPOILS = {
-        EVENTS: (spoil_label, spoil_label, spoil_span),
-        TOTALS: (spoil_objects, spoil_label, spoil_label, spoil_span),
-        PERIODS: (spoil_objects, spoil_label, spoil_label, spoil_span),
+        EVENTS: (spoil_label, spoil_label, spoil_span, spoil_summer),
+        TOTALS: (spoil_objects, spoil_label, spoil_label, spoil_span, spoil_summer),
+        PERIODS: (spoil_objects, spoil_label, spoil_label, spoil_span, spoil_summer),
         SET_CLOCK: (spoil_label,),
         SET_DATES: (spoil_label,),
         OPEN: (spoil_password,),

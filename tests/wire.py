@@ -4,9 +4,14 @@ This module builds octets. It judges none, with one exception: `is_frame`, by wh
 frame that it damaged became another sound one by chance.
 """
 
+from bisect import bisect_right
 from datetime import datetime, timedelta
 
 START_OF_TIME = datetime(2000, 1, 1)
+# Minutes are numbers of standard time from the start of 2000. With SU 1 the clock's face shows an hour more, so the
+# first of all is 00:00 with SU 1.
+SUMMER_HOUR = 60
+FIRST_MINUTE = -SUMMER_HOUR
 LAST_MINUTE = (datetime(2100, 1, 1) - START_OF_TIME) // timedelta(minutes=1) - 1
 LONGEST_RUN = 261
 MOST_USER_OCTETS = 252
@@ -43,13 +48,38 @@ def low_first(number, width):
 
 
 def minute_of(year, month, day, hour=0, minute=0):
-    """The minute's number from the start of 2000, by which labels are compared here."""
+    """The minute of a date and time of standard time. By this number records are put in order here."""
     return (datetime(year, month, day, hour, minute) - START_OF_TIME) // timedelta(minutes=1)
 
 
+def last_sunday(year, month):
+    """Of a month with 31 days."""
+    return 31 - (datetime(year, month, 31).weekday() + 1) % 7
+
+
+# The minutes at which summer time begins (02:00 becomes 03:00) and ends (03:00 becomes 02:00), by turns.
+CHANGES = tuple(minute_of(year, month, last_sunday(year, month), 2) for year in range(2000, 2100) for month in (3, 10))
+SPRING_2001, AUTUMN_2001 = minute_of(2001, 3, 25, 2), minute_of(2001, 10, 28, 2)
+
+
+def is_summer(minute):
+    """The SU of a clock that is changed on these days."""
+    return bisect_right(CHANGES, minute) % 2
+
+
+def summers(minute):
+    """Every SU with which a label can show this minute in the years 2000 to 2099."""
+    return [summer for summer in (0, 1) if 0 <= minute + SUMMER_HOUR * summer <= LAST_MINUTE]
+
+
 def label_a(minute, weekday=0, summer=0):
-    when = START_OF_TIME + timedelta(minutes=minute)
+    when = START_OF_TIME + timedelta(minutes=minute + SUMMER_HOUR * summer)
     return bytes([when.minute, when.hour | summer << 7, when.day | weekday << 5, when.month, when.year - 2000])
+
+
+def face_label_a(face, weekday=0, summer=0):
+    """The label whose clock shows this minute, whatever SU is: with SU 1 it is an hour earlier."""
+    return label_a(face - SUMMER_HOUR * summer, weekday, summer)
 
 
 def label_b(millisecond, weekday=0, summer=0):

@@ -574,6 +574,9 @@ def clock_and_dates():
     d.image(FULL).send(request(185)).image(image(
         meter(), point(1, 1), dates(label_a(9, 9, 9, 9, 9), label_a(8, 8, 8, 8, 8))))
     d.collect(message(131, 1, 5, 1, 0, hx("09 09 09 09 09 08 08 08 08 08"))).collect(None)
+    # Dates are given octet for octet, SU and weekday too.
+    d.image(image(meter(), point(1, 1), dates(hx("00 82 F9 03 01"), hx("00 83 FC 0A 01"))))
+    d.ask(request(185), message(131, 1, 5, 1, 0, hx("00 82 F9 03 01 00 83 FC 0A 01")))
     # Accepted without the point too: the request was accepted before.
     d.image(FULL).send(request(185)).image(image(meter(), point(7, 1)))
     d.collect(message(185, 1, 0x0E, 1, 0)).collect(None)
@@ -614,8 +617,9 @@ def totals():
     ask(labels_[0], labels_[0], labels_[0])
     ask(label_a(1, 1, 1, 0, 16), labels_[1], labels_[1])
     ask(label_a(0, 1, 1, 0, 0), label_a(99, 12, 31, 23, 59), *labels_)
-    # SU and weekday take no part in the comparison, and are mirrored.
-    ask(hx("1E 80 E1 01 01"), hx("1E 00 01 01 01"), labels_[1])
+    # The weekday takes no part in the comparison, and is mirrored; SU takes an hour.
+    ask(hx("1E 00 E1 01 01"), hx("1E 00 01 01 01"), labels_[1])
+    ask(hx("1E 81 E1 01 01"), hx("1E 00 01 01 01"), labels_[1])
     refuse(0x12, b"\1\6" + labels_[1] + labels_[0])
     refuse(0x12, b"\1\6" + label_a(1, 1, 1, 0, 16) + label_a(1, 1, 1, 0, 29))
     refuse(0x12, b"\1\6" + label_a(1, 1, 2, 0, 16) + label_a(99, 1, 1, 0, 0))
@@ -767,6 +771,249 @@ def diaries():
     d.check()
 
 
+# ---- labels in standard time (document 02, #102) ----------------------------
+
+def quarters(day, hours):
+    """Labels of the four quarters of each (hour, SU), on the day of these three octets."""
+    return [bytes([minute, hour | su << 7]) + day
+            for hour, su in hours for minute in (0, 15, 30, 45)]
+
+
+# 28 October and 25 March 2001, both Sundays (weekday 7).
+AUTUMN_DAY, SPRING_DAY = hx("FC 0A 01"), hx("F9 03 01")
+# "In October the hour from 02:00 comes twice, first with SU 1, then SU 0"
+AUTUMN = quarters(AUTUMN_DAY, [(1, 1), (2, 1), (2, 0), (3, 0)])
+# In March it is left out: 01:45 SU 0 is followed by 03:00 SU 1, 02:00 in standard time.
+SPRING = quarters(SPRING_DAY, [(0, 0), (1, 0), (3, 1), (4, 1)])
+
+# The first label lies before the second.
+RISING = [
+    ("0F 82 FC 0A 01", "0F 02 FC 0A 01"),  # the request's own octets: 02:15 SU 1, 02:15 SU 0
+    ("3B 82 FC 0A 01", "00 02 FC 0A 01"),  # 02:59 SU 1, 02:00 SU 0
+    ("0E 02 FC 0A 01", "0F 83 FC 0A 01"),  # 02:14 SU 0, 03:15 SU 1
+    ("0F 83 FC 0A 01", "10 02 FC 0A 01"),  # 03:15 SU 1, 02:16 SU 0
+    ("3B 01 F9 03 01", "00 83 F9 03 01"),  # 01:59 SU 0, 03:00 SU 1 in spring
+    ("1D 17 01 06 05", "1E 80 02 06 05"),  # midnight: 00:30 SU 1 is 23:30 the day before
+    ("1E 80 02 06 05", "1F 17 01 06 05"),
+    ("1D 17 1E 06 05", "1E 80 01 07 05"),  # the start of a month
+    ("1E 80 01 07 05", "1F 17 1E 06 05"),
+    ("1D 17 1F 0C 05", "1E 80 01 01 06"),  # of a year
+    ("1E 80 01 01 06", "1F 17 1F 0C 05"),
+    ("1D 17 1C 02 04", "1E 80 1D 02 04"),  # of 29 February
+    ("1E 80 1D 02 04", "1F 17 1C 02 04"),
+    ("1D 17 1D 02 04", "1E 80 01 03 04"),  # of 1 March behind it
+    ("1E 80 01 03 04", "1F 17 1D 02 04"),
+    ("1D 17 1C 02 05", "1E 80 01 03 05"),  # of 1 March in another year
+    ("1E 80 01 03 05", "1F 17 1C 02 05"),
+    ("00 80 01 01 00", "0F 80 01 01 00"),  # the first hour of 2000, all of it before
+    ("0F 80 01 01 00", "00 00 01 01 00"),  # 00:00 SU 0
+    ("3B 80 01 01 00", "00 00 01 01 00"),
+    ("3B 80 01 01 00", "00 81 01 01 00"),
+    ("3B 97 1F 0C 63", "00 17 1F 0C 63"),  # the last hour of 2099
+    ("00 80 01 01 00", "3B 17 1F 0C 63"),  # the first label of all and the last
+]
+
+# The two are one instant.
+SAME = [
+    ("0F 02 FC 0A 01", "0F 83 FC 0A 01"),  # the request's own: 02:15 SU 0, 03:15 SU 1
+    ("00 02 F9 03 01", "00 83 F9 03 01"),
+    ("1E 17 01 06 05", "1E 80 02 06 05"),
+    ("1E 17 1E 06 05", "1E 80 01 07 05"),
+    ("1E 17 1F 0C 05", "1E 80 01 01 06"),
+    ("1E 17 1C 02 04", "1E 80 1D 02 04"),
+    ("1E 17 1D 02 04", "1E 80 01 03 04"),
+    ("1E 17 1C 02 05", "1E 80 01 03 05"),
+    ("00 00 01 01 00", "00 81 01 01 00"),
+    ("3B 16 1F 0C 63", "3B 97 1F 0C 63"),
+]
+
+# Seconds and milliseconds that stand in front of a label b.
+AT_0, AT_1_MS, AT_LAST = hx("00 00"), hx("01 00"), hx("E7 EF")
+
+
+def readings_image(labels_, rec=11):
+    return image(meter(), point(1, 0x12345678), *[reading(1, rec, one) for one in labels_])
+
+
+def events_image(labels_, rec=52):
+    return image(meter(), point(1, 0x12345678), *[event(1, rec, 7, 8, one) for one in labels_])
+
+
+def standard_time_in_images():
+    """8 uses the new comparison: readings strictly rising, events with equals allowed."""
+    d = Drive("images in standard time", None)
+
+    def judged(what, octets, number):
+        d.image(octets).gap(number, what=what)
+
+    for name, day in (("autumn", AUTUMN), ("spring", SPRING)):
+        judged(name, readings_image(day), 1)
+        judged(name, events_image([AT_0 + one for one in day]), 1)
+        for i in range(len(day) - 1):
+            swapped = day[:i] + [day[i + 1], day[i]] + day[i + 2:]
+            judged(f"{name}, {i} swapped", readings_image(swapped), 8)
+            judged(f"{name}, {i} swapped", events_image([AT_0 + one for one in swapped]), 8)
+    winter_first = AUTUMN[:4] + AUTUMN[8:12] + AUTUMN[4:8] + AUTUMN[12:]
+    judged("SU 0 before SU 1", readings_image(winter_first), 8)
+    judged("SU 0 before SU 1", events_image([AT_0 + one for one in winter_first]), 8)
+
+    for before, behind in RISING:
+        what, one, other = f"{before}, {behind}", hx(before), hx(behind)
+        judged(what, readings_image([one, other]), 1)
+        judged(what, readings_image([other, one]), 8)
+        # An event's second and millisecond come behind its minute.
+        for front, other_front in ((AT_0, AT_0), (AT_LAST, AT_0), (AT_0, AT_LAST)):
+            judged(what, events_image([front + one, other_front + other]), 1)
+            judged(what, events_image([other_front + other, front + one]), 8)
+
+    for pair in SAME:
+        for one, other in (map(hx, pair), map(hx, reversed(pair))):
+            what = f"{one.hex(' ')}, {other.hex(' ')}"
+            judged(what, readings_image([one, other]), 8)
+            judged(what, events_image([AT_0 + one, AT_0 + other]), 1)
+            judged(what, events_image([AT_LAST + one, AT_LAST + other]), 1)
+            judged(what, events_image([AT_0 + one, AT_1_MS + other]), 1)
+            judged(what, events_image([AT_1_MS + one, AT_0 + other]), 8)
+    # Point and record come before the label, also one before the start of 2000.
+    early, start = map(hx, ("0F 80 01 01 00", "00 00 01 01 00"))
+    both = (meter(), point(1, 2))
+    judged("records first", image(*both, reading(1, 11, start), reading(1, 21, early)), 1)
+    judged("records first", image(*both, reading(1, 21, early), reading(1, 11, start)), 8)
+    judged("records first", image(*both, event(1, 52, 0, 0, AT_0 + start),
+                                  event(1, 53, 0, 0, AT_0 + early)), 1)
+    d.check()
+
+
+class Asking:
+    """Ranges asked of one record: whole labels must come back octet for octet."""
+
+    def __init__(self, kind, labels_):
+        self.kind = kind
+        self.rec = {102: 52, 122: 21, 123: 11}[kind]
+        octets = (events_image([AT_LAST + one for one in labels_]) if kind == 102
+                  else readings_image(labels_, self.rec))
+        self.drive = Drive(f"{kind} in standard time", octets).reset().open()
+
+    def request(self, first, last):
+        return request(self.kind, body=(b"" if self.kind == 102 else b"\1\6") + first + last)
+
+    def data(self, chosen):
+        if self.kind == 102:
+            events = b"".join(hx("07 08") + AT_LAST + one for one in chosen)
+            return [message(1, len(chosen), 5, 1, 52, events)]
+        return [message({122: 8, 123: 11}[self.kind], 6, 5, 1, self.rec, objects(bytes(4), 0) + one)
+                for one in chosen]
+
+    def gives(self, first, last, chosen):
+        ask = self.request(first, last)
+        self.drive.ask(ask, with_cause(ask, 7), *self.data(chosen), with_cause(ask, 10),
+                       what=f"{first.hex(' ')} to {last.hex(' ')}")
+
+    def after(self, first, last):
+        """First after last: 18 for all three."""
+        self.drive.refuse(self.request(first, last), 0x12)
+
+    def none(self, first, last):
+        """Nothing chosen: 18 for readings, 13 for events."""
+        self.drive.refuse(self.request(first, last), 0x0D if self.kind == 102 else 0x12)
+
+
+def autumn(hour, minute, su):
+    return bytes([minute, hour | su << 7]) + AUTUMN_DAY
+
+
+def spring(hour, minute, su):
+    return bytes([minute, hour | su << 7]) + SPRING_DAY
+
+
+def autumn_ranges(kind):
+    asking = Asking(kind, AUTUMN)
+    asking.gives(autumn(1, 0, 1), autumn(3, 45, 0), AUTUMN)
+    asking.gives(autumn(2, 0, 1), autumn(2, 45, 0), AUTUMN[4:12])
+    asking.gives(autumn(2, 0, 1), autumn(2, 45, 1), AUTUMN[4:8])
+    asking.gives(autumn(2, 0, 0), autumn(2, 45, 0), AUTUMN[8:12])
+    asking.gives(autumn(2, 45, 1), autumn(2, 15, 0), AUTUMN[7:10])
+    asking.gives(autumn(2, 15, 1), autumn(2, 15, 0), AUTUMN[5:10])
+    # The same instants under other labels.
+    asking.gives(autumn(3, 0, 1), autumn(3, 45, 1), AUTUMN[8:12])
+    asking.gives(autumn(1, 0, 0), autumn(1, 45, 0), AUTUMN[4:8])
+    asking.gives(autumn(2, 15, 0), autumn(3, 15, 1), AUTUMN[9:10])
+    asking.gives(autumn(3, 15, 1), autumn(2, 15, 0), AUTUMN[9:10])
+    asking.gives(autumn(0, 0, 0), autumn(0, 59, 0), AUTUMN[:4])
+    # Weekday 0 instead of 7 is the same label.
+    asking.gives(hx("0F 82 1C 0A 01"), hx("0F 02 1C 0A 01"), AUTUMN[5:10])
+    asking.after(autumn(2, 15, 0), autumn(2, 45, 1))
+    asking.after(autumn(2, 15, 0), autumn(2, 15, 1))
+    asking.after(autumn(2, 0, 0), autumn(2, 59, 1))
+    asking.after(autumn(2, 16, 0), autumn(3, 15, 1))
+    asking.after(autumn(3, 15, 1), autumn(2, 14, 0))
+    asking.none(autumn(2, 46, 1), autumn(2, 59, 1))
+    asking.none(autumn(2, 46, 1), autumn(1, 59, 0))
+    asking.none(autumn(0, 0, 1), autumn(0, 59, 1))
+    asking.none(autumn(4, 0, 0), autumn(6, 0, 1))
+    asking.drive.check()
+
+
+def spring_ranges(kind):
+    asking = Asking(kind, SPRING)
+    asking.gives(spring(0, 0, 0), spring(4, 45, 1), SPRING)
+    asking.gives(spring(1, 45, 0), spring(3, 0, 1), SPRING[7:9])
+    asking.gives(spring(1, 0, 0), spring(3, 45, 1), SPRING[4:12])
+    asking.gives(spring(2, 0, 0), spring(2, 45, 0), SPRING[8:12])
+    asking.gives(spring(2, 0, 1), spring(2, 45, 1), SPRING[4:8])
+    asking.gives(spring(3, 0, 1), spring(2, 0, 0), SPRING[8:9])
+    asking.gives(spring(4, 45, 1), spring(3, 45, 0), SPRING[15:])
+    asking.after(spring(2, 15, 0), spring(3, 0, 1))
+    asking.after(spring(3, 0, 1), spring(1, 59, 0))
+    asking.none(spring(1, 46, 0), spring(2, 59, 1))
+    asking.none(spring(4, 0, 0), spring(6, 0, 0))
+    asking.none(spring(0, 0, 1), spring(0, 59, 1))
+    asking.drive.check()
+
+
+def start_ranges(kind):
+    """1 January 2000: 00:15 SU 1 is 23:15 of the day before."""
+    early, start, later = map(hx, ("0F 80 01 01 00", "00 00 01 01 00", "0F 00 01 01 00"))
+    first_of_all, last_of_all = hx("00 80 01 01 00"), hx("3B 17 1F 0C 63")
+    asking = Asking(kind, [early, start, later])
+    asking.gives(early, early, [early])
+    asking.gives(early, start, [early, start])
+    asking.gives(first_of_all, last_of_all, [early, start, later])
+    asking.gives(first_of_all, hx("3B 80 01 01 00"), [early])
+    asking.gives(start, last_of_all, [start, later])
+    asking.gives(hx("10 80 01 01 00"), later, [start, later])
+    asking.gives(hx("00 81 01 01 00"), hx("0E 81 01 01 00"), [start])
+    asking.after(start, early)
+    asking.after(early, first_of_all)
+    asking.after(start, hx("3B 80 01 01 00"))
+    asking.none(hx("10 80 01 01 00"), hx("3B 80 01 01 00"))
+    asking.none(first_of_all, hx("0E 80 01 01 00"))
+    asking.drive.check()
+
+
+def standard_time_in_ranges():
+    """"Selection uses it too"; 18 uses the new comparison."""
+    for kind in (102, 122, 123):
+        autumn_ranges(kind)
+        spring_ranges(kind)
+        start_ranges(kind)
+        for before, behind in RISING:
+            one, other = hx(before), hx(behind)
+            asking = Asking(kind, [one, other])
+            asking.gives(one, other, [one, other])
+            asking.gives(one, one, [one])
+            asking.gives(other, other, [other])
+            asking.after(other, one)
+            asking.drive.check()
+        for pair in SAME:
+            one, other = map(hx, pair)
+            for label in (one, other):
+                asking = Asking(kind, [label])
+                for first, last in ((one, one), (one, other), (other, one), (other, other)):
+                    asking.gives(first, last, [label])
+                asking.drive.check()
+
+
 # ---- images exchanged between gaps ------------------------------------------
 
 def exchanged():
@@ -878,7 +1125,8 @@ def images():
     unsound("reading's label", m, p, reading(1, 11, hx("0F 00 21 01 E4")))
     unsound("equal readings", m, p, reading(1, 11, JAN), reading(1, 11, JAN))
     unsound("equal but for the weekday", m, p, reading(1, 11, JAN), reading(1, 11, hx("0F 00 21 01 01")))
-    unsound("equal but for SU", m, p, reading(1, 11, JAN), reading(1, 11, hx("0F 80 01 01 01")))
+    unsound("SU 1 behind SU 0", m, p, reading(1, 11, JAN), reading(1, 11, summer(JAN)))
+    sound("SU 1 before SU 0", m, p, reading(1, 11, summer(JAN)), reading(1, 11, JAN))
     unsound("falling labels", m, p, reading(1, 11, later), reading(1, 11, JAN))
     sound("rising labels", m, p, reading(1, 11, JAN), reading(1, 11, later))
     unsound("falling records", m, p, reading(1, 21, JAN), reading(1, 11, later))
@@ -1017,7 +1265,8 @@ def at_random():
 
 for part in (paper_cases, labels, printing, driving, little_by_little, refusals, count_bit,
              messages_accepted, messages_refused, passwords, clock_and_dates, totals,
-             object_ranges, ranges_exchanged, diaries, exchanged, images, at_random):
+             object_ranges, ranges_exchanged, diaries, standard_time_in_images,
+             standard_time_in_ranges, exchanged, images, at_random):
     before = Tally.checks
     part()
     print(f"{part.__name__}: {Tally.checks - before} checks")

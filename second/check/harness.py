@@ -82,6 +82,12 @@ def label_b(year, month, day, hour, minute, second=0, ms=0):
     return le(second << 10 | ms, 2) + label_a(year, month, day, hour, minute)
 
 
+def summer(label):
+    """The same date and time with SU 1: bit 8 of the hour, which is the fourth
+    octet from the end in both kinds of label."""
+    return label[:-4] + bytes([label[-4] | 0x80]) + label[-3:]
+
+
 # ---- the image --------------------------------------------------------------
 
 def record(kind, body):

@@ -46,6 +46,10 @@ event = 1 ∷ one
 abbrev events : List ℕ
 events = 1 ∷ (one ++ one)
 
+-- the same event at 01:01 in summer time
+abbrev summer : List ℕ
+summer = 1 ∷ 0 ∷ 13 ∷ 5 ∷ 0 ∷ 1 ∷ 52 ∷ 9 ∷ 1 ∷ 0 ∷ 0 ∷ 1 ∷ 0x81 ∷ 1 ∷ 1 ∷ 0 ∷ []
+
 -- a reading of point 1 and record address 11, at 00:00 of 2 January 2000: the minute numbered 1440, and the last of the day before
 abbrev reading : List ℕ
 reading = 1 ∷ 0 ∷ 39 ∷ 4 ∷ 0 ∷ 1 ∷ 11 ∷ 0 ∷ 0 ∷ 2 ∷ 1 ∷ 0 ∷ replicate 30 0
@@ -67,6 +71,11 @@ module _ (κs : Lfts 1) (x : Place) where
   find-first-out : RuledOut (find.Post κs) (lent x event, (asked 1 (pos 1) (pos 2), (0, tt))) Nothing
   unfolding nthPlace placesFrom chosen placesOf inSpan the-records the-minutes
   find-first-out s p = never (cc)
+
+  -- an event chosen by what its clock shows: 01:01 in summer time, which is the minute numbered 1, left out of the minutes 1 to 2
+  find-shown : RuledOut (find.Post κs) (lent x summer, (asked 1 (pos 1) (pos 2), (0, tt))) Nothing
+  unfolding nthPlace placesFrom chosen placesOf inSpan the-records the-minutes
+  find-shown s p = never (cc)
 
   -- an event left out whose minute is the last asked for
   find-last-out : RuledOut (find.Post κs) (lent x event, (asked 1 (pos 0) (pos 1), (0, tt))) Nothing

@@ -1,5 +1,5 @@
-// Labels: the date and time, summer or winter; valid, and the minute, or what is wrong. A label a is shown as the label b at the start of its
-// minute, without its second.
+// Labels: the date and time, summer or standard, a summer label also in standard time; valid, and the minute, or what is wrong. A label a is shown as
+// the label b at the start of its minute, without its second.
 ghost use Prim.Native.Nat.{_<_};
 use crate::voice;
 use crate::words;
@@ -36,15 +36,47 @@ fn fault(label: LabelB) {
     }
 }
 
-// A label inside something else: its time, and what is wrong with it. SU is the highest bit of the hour's octet.
-pub(crate) fn label(label: LabelB, seconds: bool) {
-    let a = label.a;
-    let t = a.date_time();
-    words::when(t.year, t.month, t.day, t.hour, t.minute);
+// The second of a label, where it is shown. It is the same in summer and in standard time.
+fn second(label: LabelB, seconds: bool) {
     if seconds {
         words::seconds(label.second(), label.millisecond());
     }
-    words::season(a.hour / 128);
+}
+
+// The time as the label says it.
+fn as_said(label: LabelB, seconds: bool) {
+    let a = label.a;
+    let t = a.date_time();
+    words::when(2000 + t.year as u16, t.month, t.day, t.hour, t.minute);
+    second(label, seconds);
+}
+
+// The time of a valid label in standard time, by which labels are compared.
+fn standard(label: LabelB, seconds: bool) {
+    let a = label.a;
+    let t = a.standard_time();
+    words::when(t.year, t.month, t.day, t.hour, t.minute);
+    second(label, seconds);
+    words::season(0);
+}
+
+// Summer or standard time by SU, the highest bit of the hour's octet. What is not valid has no standard time.
+fn season(label: LabelB, seconds: bool) {
+    let a = label.a;
+    if a.hour < 128 {
+        return words::season(0);
+    }
+    if label.is_valid() {
+        words::season(2);
+        return standard(label, seconds);
+    }
+    words::season(1)
+}
+
+// A label inside something else: its time, and what is wrong with it.
+pub(crate) fn label(label: LabelB, seconds: bool) {
+    as_said(label, seconds);
+    season(label, seconds);
     fault(label);
 }
 
@@ -64,21 +96,22 @@ fn read(given: &[u8]) -> LabelB {
     LabelB::read(given)
 }
 
-// A number that is not below 0; 0 for one that is.
-fn natural(n: i64) -> u64 {
-    if 0 <= n {
-        return n as u64;
+// A minute with its sign. One below 0 is counted from -1 on: so its size fits, whichever it is.
+fn valid(minute: i64) {
+    if 0 <= minute {
+        return words::valid(0, minute as u64);
     }
-    0
+    words::valid(1, (-1 - minute) as u64 + 1)
 }
 
-// A label by itself: where it is valid, also its minute since 1 January 2000 00:00.
+// A label by itself: where it is valid, also its minute since 1 January 2000 00:00 in standard time, which is below 0 for a summer label in the first
+// hour of 2000.
 pub(crate) fn explain(given: &[u8]) {
     let read = read(given);
     let a = read.a;
     label(read, given.len() == 7);
     if read.is_valid() {
-        words::valid(natural(a.instant()));
+        valid(a.instant());
     }
 }
 

@@ -46,12 +46,12 @@ pub(crate) fn expected(what: u8)
 
 // ---- labels ----
 
-// The date and the time.
-pub(crate) fn when(year: u8, month: u8, day: u8, hour: u8, minute: u8) {
+// The date, its year whole, and the time.
+pub(crate) fn when(year: u16, month: u8, day: u8, hour: u8, minute: u8) {
     phrase(
         b"%-&-& &:&",
         [
-            2000 + year as u64,
+            year as u64,
             month as u64,
             day as u64,
             hour as u64,
@@ -65,15 +65,22 @@ pub(crate) fn seconds(second: u8, millisecond: u16) {
     phrase(b":&.$", [second as u64, millisecond as u64, 0, 0, 0, 0])
 }
 
-// 0 winter, 1 summer.
+// 0 standard, 1 summer, 2 summer before the same in standard time.
 pub(crate) fn season(season: u8)
-    requires { ⌜ season < 2 ⌝ }
+    requires { ⌜ season < 3 ⌝ }
 {
-    word(b" winter time; summer time;", season)
+    word(b" standard time; summer time; summer time, ;", season)
 }
 
-pub(crate) fn valid(minute: u64) {
-    phrase(b", valid, minute %", [minute, 0, 0, 0, 0, 0])
+// 0 not below zero, 1 below.
+pub(crate) fn valid(below: u8, minute: u64)
+    requires { ⌜ below < 2 ⌝ }
+{
+    phrase_of(
+        b", valid, minute %;, valid, minute -%;",
+        below,
+        [minute, 0, 0, 0, 0, 0],
+    )
 }
 
 pub(crate) fn not_valid(why: u8)
@@ -308,7 +315,7 @@ pub(crate) fn unsound(why: u8)
     requires { ⌜ why < 19 ⌝ }
 {
     word(
-        b"over 65535 octets;it does not begin with version 1;the first record is not of kind 1;the point is 0;the first switch date is not valid;the second switch date is not valid;the record address is neither 11 nor 21;the label is not valid;the record address is none of events;the event's label is not valid;out of order;a ninth point;no point stands before it;the point is not among the points;no such kind;the length is not that of its kind;cut;there is no record;there is no point;",
+        b"over 65535 octets;it does not begin with version 1;the first record is not of kind 1;the point is 0;the first switch date is not valid;the second switch date is not valid;the record address is neither 11 nor 21;the label is not valid;the record address is none of events;the event's label is not valid;out of order by kind, point, record address and standard time;a ninth point;no point stands before it;the point is not among the points;no such kind;the length is not that of its kind;cut;there is no record;there is no point;",
         why,
     )
 }
@@ -373,7 +380,7 @@ pub(crate) fn rule(rule: u8)
     naming(
         b"rule: *",
         [0; 6],
-        b"T or P/N set;type not offered;no session;point not in the image;session of another point;structure octet, octets or cause not as listed;record address not as listed;first object 0, last object over 6, or first after last;a label of readings not valid;first label of readings after the last;no reading chosen;a label of events not valid;first label of events after the last;no event chosen;clock not valid;no switch dates in the image;a label to set not valid;wrong password;accepted;",
+        b"T or P/N set;type not offered;no session;point not in the image;session of another point;structure octet, octets or cause not as listed;record address not as listed;first object 0, last object over 6, or first after last;a label of readings not valid;first label of readings after the last in standard time;no reading chosen;a label of events not valid;first label of events after the last in standard time;no event chosen;clock not valid;no switch dates in the image;a label to set not valid;wrong password;accepted;",
         rule,
     )
 }

@@ -3,19 +3,17 @@
 use Prim.Native.Nat.{ℕ, zero, suc, _≤_, _<_}
 use mathlib.Core.Bool.{Bool, true, false, not}
 use mathlib.Core.List.{List, [], _∷_}
-use mathlib.Core.Path.{_≡_, refl, ap, ap₂, sym, _∙_}
+use mathlib.Core.Path.{_≡_, refl, ap, sym, _∙_}
 use native.Mathlib.Omega.{arith}
-use borrow.Author.Tests.{eqb-true, eqb-false, ltb-true, ltb-false, eq-eqb, ne-eqb, lt-ltb, le-ltb, le-leb, not-true}
+use borrow.Author.Tests.{eqb-true, eqb-false, ltb-true, ltb-false, eq-eqb, ne-eqb, lt-ltb, le-ltb, not-true}
 use lib.Dec.{ltb, eqb}
 use lib.ListN.{length, getD}
-use lib.Signed.{mag, ltZ, leZ}
+use lib.Signed.{leZ}
 use Rattle.octets.specs.Choice.{if_then_else_}
 use Rattle.octets.proofs.Choice.{not-both, same-test}
 use Rattle.octets.proofs.Conditions.{and-left, and-right}
-use Rattle.label.specs.declared.LabelA.{LabelA}
-use Rattle.label.specs.declared.LabelB.{LabelB}
-use Rattle.label.specs.Label.{instant, beforeA, beforeB, inMinute}
-use Rattle.label.proofs.Label.{instant-pos}
+use Rattle.label.specs.Label.{instant, beforeB}
+use Rattle.label.proofs.Instant.{a-trans, a-rises, b-rises, b-not-trans}
 use Rattle.records.specs.Records.{kindOf}
 use Rattle.records.specs.Said.{every, linked}
 use Rattle.records.proofs.Said.{every-at}
@@ -67,74 +65,30 @@ part-not x y rest = by-tests (eqb y x) (eqb x y) refl refl
         (λ g. let h : x ≤ y = ltb-false y x (not-true _ g) in lt-ltb x y (omega arith))
         (λ g. let h : x < y = ltb-true x y g in rw (le-ltb y x (omega arith)))
 
--- labels by their numbers
-minuteOf : LabelA → ℕ
-minuteOf l = mag (instant l)
-
-before-a : (l l′ : LabelA) → beforeA l l′ ≡ ltb (minuteOf l) (minuteOf l′)
-unfolding beforeA minuteOf
-before-a l l′ = ap₂ ltZ (instant-pos l) (instant-pos l′)
-
-at-most-a : (l l′ : LabelA) → minuteOf l ≤ minuteOf l′ → leZ (instant l) (instant l′) ≡ true
-unfolding minuteOf
-at-most-a l l′ h = ap₂ leZ (instant-pos l) (instant-pos l′) ∙ le-leb (mag (instant l)) (mag (instant l′)) h
-
-before-b : (l l′ : LabelB) → beforeB l l′ ≡ part (minuteOf (l .a)) (minuteOf (l′ .a)) (ltb (inMinute l) (inMinute l′))
-unfolding beforeB
-before-b l l′ = rw (before-a (l .a) (l′ .a), before-a (l′ .a) (l .a)) (by-tests (eqb x y) (ltb x y) (ltb y x) refl refl refl)
-  where
-    x : ℕ
-    x = minuteOf (l .a)
-
-    y : ℕ
-    y = minuteOf (l′ .a)
-
-    by-tests : (t u v : Bool) → eqb x y ≡ t → ltb x y ≡ u → ltb y x ≡ v
-        → (if u then true else if v then false else ltb (inMinute l) (inMinute l′)) ≡ (if not t then u else ltb (inMinute l) (inMinute l′))
-    by-tests false true v e f g = refl
-    by-tests false false true e f g = refl
-    by-tests false false false e f g =
-        let least : y ≤ x = ltb-false x y f in
-        let most : x ≤ y = ltb-false y x g in
-        absurd (eqb-false x y e (omega arith))
-    by-tests true true v e f g = let h : x < y = ltb-true x y f in absurd (omega (arith, eqb-true x y e))
-    by-tests true false true e f g = let h : y < x = ltb-true y x g in absurd (omega (arith, eqb-true x y e))
-    by-tests true false false e f g = refl
-
 less-trans : (x y z : ℕ) → ltb x y ≡ true → ltb y z ≡ true → ltb x z ≡ true
 less-trans x y z e f = lt-ltb x z (omega (arith, ltb-true x y e, ltb-true y z f))
 
-no-less-trans : (x y z : ℕ) → not (ltb y x) ≡ true → not (ltb z y) ≡ true → not (ltb z x) ≡ true
-no-less-trans x y z e f = rw (le-ltb z x (omega (arith, ltb-false y x (not-true _ e), ltb-false z y (not-true _ f))))
-
 -- records of one kind
-module _ (r q p : List ℕ) where
-  readings-trans : readingBefore r q ≡ true → readingBefore q p ≡ true → readingBefore r p ≡ true
-  unfolding readingBefore byPoint
-  readings-trans =
-      part-trans (pointOf r) (pointOf q) (pointOf p) _ _ _ (λ e f.
-      part-trans (recordAddress r) (recordAddress q) (recordAddress p) _ _ _ (λ g h.
-      rw (before-a (readingLabel r) (readingLabel q), before-a (readingLabel q) (readingLabel p), before-a (readingLabel r) (readingLabel p))
-      (less-trans (minuteOf (readingLabel r)) (minuteOf (readingLabel q)) (minuteOf (readingLabel p)))))
+readings-trans : (r q p : List ℕ) → readingBefore r q ≡ true → readingBefore q p ≡ true → readingBefore r p ≡ true
+unfolding readingBefore byPoint
+readings-trans r q p =
+    part-trans (pointOf r) (pointOf q) (pointOf p) _ _ _ (λ e f.
+    part-trans (recordAddress r) (recordAddress q) (recordAddress p) _ _ _ (λ g h.
+    a-trans (readingLabel r) (readingLabel q) (readingLabel p)))
 
 -- not before, the other way round: by parts again
 not-event : (r q : List ℕ) → not (eventBefore q r)
-    ≡ part (pointOf r) (pointOf q) (part (recordAddress r) (recordAddress q)
-    (part (minuteOf (eventLabel r .a)) (minuteOf (eventLabel q .a)) (not (ltb (inMinute (eventLabel q)) (inMinute (eventLabel r))))))
+    ≡ part (pointOf r) (pointOf q) (part (recordAddress r) (recordAddress q) (not (beforeB (eventLabel q) (eventLabel r))))
 unfolding eventBefore byPoint
 not-event r q =
-    rw (before-b (eventLabel q) (eventLabel r))
-    (part-not (pointOf r) (pointOf q) _
-    ∙ ap (part (pointOf r) (pointOf q)) (part-not (recordAddress r) (recordAddress q) _
-    ∙ ap (part (recordAddress r) (recordAddress q)) (part-not (minuteOf (eventLabel r .a)) (minuteOf (eventLabel q .a)) _)))
+    part-not (pointOf r) (pointOf q) _ ∙ ap (part (pointOf r) (pointOf q)) (part-not (recordAddress r) (recordAddress q) _)
 
 events-trans : (r q p : List ℕ) → not (eventBefore q r) ≡ true → not (eventBefore p q) ≡ true → not (eventBefore p r) ≡ true
 events-trans r q p =
     rw (not-event r q, not-event q p, not-event r p)
     (part-trans (pointOf r) (pointOf q) (pointOf p) _ _ _ (λ e f.
     part-trans (recordAddress r) (recordAddress q) (recordAddress p) _ _ _ (λ g h.
-    part-trans (minuteOf (eventLabel r .a)) (minuteOf (eventLabel q .a)) (minuteOf (eventLabel p .a)) _ _ _ (λ i j.
-    no-less-trans (inMinute (eventLabel r)) (inMinute (eventLabel q)) (inMinute (eventLabel p))))))
+    b-not-trans (eventLabel r) (eventLabel q) (eventLabel p))))
 
 -- of one kind, and of any
 sameKind : ℕ → List ℕ → List ℕ → Bool
@@ -223,20 +177,12 @@ module _ (r q : List ℕ) (points : pointOf r ≡ pointOf q) (addresses : record
   unfolding sameKind readingBefore byPoint
   readings-rise k l =
       let before : readingBefore r q ≡ true = rw k at (same-kind-order (k ∙ sym l)) in
-      let labels : beforeA (readingLabel r) (readingLabel q) ≡ true = same-part (recordAddress r) (recordAddress q) _ addresses (same-part (pointOf r) (pointOf q) _ points before) in
-      let less : minuteOf (readingLabel r) < minuteOf (readingLabel q) = ltb-true _ _ (sym (before-a (readingLabel r) (readingLabel q)) ∙ labels) in
-      at-most-a (readingLabel r) (readingLabel q) (omega arith)
+      a-rises (readingLabel r) (readingLabel q)
+      (same-part (recordAddress r) (recordAddress q) _ addresses (same-part (pointOf r) (pointOf q) _ points before))
 
   pub events-rise : kindOf r ≡ 5 → kindOf q ≡ 5 → leZ (instant (eventLabel r .a)) (instant (eventLabel q .a)) ≡ true
   unfolding sameKind
   events-rise k l =
-      let x = minuteOf (eventLabel r .a) in
-      let y = minuteOf (eventLabel q .a) in
       let parts = sym (not-event r q) ∙ (rw k at (same-kind-order (k ∙ sym l))) in
-      let labels : part x y (not (ltb (inMinute (eventLabel q)) (inMinute (eventLabel r)))) ≡ true =
-      same-part (recordAddress r) (recordAddress q) _ addresses (same-part (pointOf r) (pointOf q) _ points parts) in
-      at-most-a (eventLabel r .a) (eventLabel q .a) (at-most (part-true x y _ labels))
-    where
-      at-most : {x y : ℕ} {rest : Bool} → Part x y rest → x ≤ y
-      at-most (decided h) = omega arith
-      at-most (passed h f) = omega arith
+      b-rises (eventLabel r) (eventLabel q)
+      (same-part (recordAddress r) (recordAddress q) _ addresses (same-part (pointOf r) (pointOf q) _ points parts))

@@ -45,12 +45,18 @@ head = 1 ∷ 0 ∷ 9 ∷ 1 ∷ 0 ∷ 1 ∷ 0 ∷ 0 ∷ 0 ∷ 0 ∷ 0 ∷ 0 ∷ [
 abbrev point : ℕ → List ℕ
 point n = 0 ∷ 7 ∷ 2 ∷ 0 ∷ n ∷ 0x12 ∷ 0x34 ∷ 0x56 ∷ 0x78 ∷ []
 
--- a reading and an event of point 1, in a minute of the first hour
+-- a reading and an event of point 1, on 1 January 2000 by the octets of hour and minute; and in a minute of the first hour
+abbrev readingAt : ℕ → ℕ → ℕ → List ℕ
+readingAt address hour minute = 0 ∷ 39 ∷ 4 ∷ 0 ∷ 1 ∷ address ∷ minute ∷ hour ∷ 1 ∷ 1 ∷ 0 ∷ replicate 30 0
+
+abbrev eventAt : ℕ → ℕ → ℕ → List ℕ
+eventAt address hour minute = 0 ∷ 13 ∷ 5 ∷ 0 ∷ 1 ∷ address ∷ 9 ∷ 1 ∷ 0 ∷ 0 ∷ minute ∷ hour ∷ 1 ∷ 1 ∷ 0 ∷ []
+
 abbrev reading : ℕ → ℕ → List ℕ
-reading address minute = 0 ∷ 39 ∷ 4 ∷ 0 ∷ 1 ∷ address ∷ minute ∷ 0 ∷ 1 ∷ 1 ∷ 0 ∷ replicate 30 0
+reading address minute = readingAt address 0 minute
 
 abbrev event : ℕ → ℕ → List ℕ
-event address minute = 0 ∷ 13 ∷ 5 ∷ 0 ∷ 1 ∷ address ∷ 9 ∷ 1 ∷ 0 ∷ 0 ∷ minute ∷ 0 ∷ 1 ∷ 1 ∷ 0 ∷ []
+event address minute = eventAt address 0 minute
 
 -- a record of an image, from the front
 abbrev nth : List ℕ → ℕ → List ℕ
@@ -121,10 +127,35 @@ module _ (κs : Lfts 1) (x : Place) where
   unfolding the-image the-labels
   sound-equal-readings s p = false≢true (sym p)
 
+  -- an hour that comes twice is not sound: readings at 00:15, in summer time and then in standard time
+  sound-hour-twice : RuledOut (sound.Post κs) (lent x (head ++ (point 1 ++ (readingAt 11 0x80 15 ++ readingAt 11 0 15))), tt) false
+  unfolding the-image the-labels
+  sound-hour-twice s p = false≢true p
+
+  -- the same hour the other way round is sound
+  sound-hour-back : RuledOut (sound.Post κs) (lent x (head ++ (point 1 ++ (readingAt 11 0 15 ++ readingAt 11 0x80 15))), tt) true
+  unfolding the-image the-labels
+  sound-hour-back s p = false≢true (sym p)
+
+  -- two readings at one instant are sound: 00:15 in standard time and 01:15 in summer time
+  sound-one-instant : RuledOut (sound.Post κs) (lent x (head ++ (point 1 ++ (readingAt 11 0 15 ++ readingAt 11 0x81 15))), tt) true
+  unfolding the-image the-labels
+  sound-one-instant s p = false≢true (sym p)
+
   -- readings whose labels rise are not sound
   sound-readings-rising : RuledOut (sound.Post κs) (lent x (head ++ (point 1 ++ (reading 11 15 ++ reading 11 30))), tt) false
   unfolding the-image the-labels
   sound-readings-rising s p = false≢true p
+
+  -- two events at one instant are not sound: 01:15 in summer time and 00:15 in standard time
+  sound-events-at-once : RuledOut (sound.Post κs) (lent x (head ++ (point 1 ++ (eventAt 52 0x81 15 ++ eventAt 52 0 15))), tt) false
+  unfolding the-image the-labels
+  sound-events-at-once s p = false≢true p
+
+  -- an event in summer time is sound behind one that its clock shows at the same minute in standard time
+  sound-events-hour-back : RuledOut (sound.Post κs) (lent x (head ++ (point 1 ++ (eventAt 52 0 15 ++ eventAt 52 0x80 15))), tt) true
+  unfolding the-image the-labels
+  sound-events-hour-back s p = false≢true (sym p)
 
   -- two events of one label are not sound
   sound-equal-events : RuledOut (sound.Post κs) (lent x (head ++ (point 1 ++ (event 52 0 ++ event 52 0))), tt) false

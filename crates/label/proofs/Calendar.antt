@@ -63,6 +63,13 @@ pub month-at-most : (isLeap : Bool) (month : ℕ) → month ≤ 12 → monthLeng
 unfolding month-small monthLength leapDay
 month-at-most isLeap month h = leb-true _ _ (both-years month-small refl refl isLeap month h)
 
+month-filled : Bool → ℕ → Bool
+month-filled isLeap month = leb 28 (monthLength isLeap month)
+
+pub month-at-least : (isLeap : Bool) (month : ℕ) → month ≤ 12 → 28 ≤ monthLength isLeap month
+unfolding month-filled monthLength leapDay
+month-at-least isLeap month h = leb-true _ _ (both-years month-filled refl refl isLeap month h)
+
 before-small : Bool → ℕ → Bool
 before-small isLeap month = leb (daysOfMonths isLeap (month - 1)) 335
 

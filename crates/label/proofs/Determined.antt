@@ -16,6 +16,7 @@ use Rattle.label.proofs.LabelB.in_minute.Reads as b-in-minute
 use Rattle.label.proofs.LabelB.is_before.Reads as b-is-before
 use Rattle.label.proofs.LabelA.moment.Reads as a-moment
 use Rattle.label.proofs.LabelB.moment.Reads as b-moment
+use Rattle.label.proofs.LabelA.standard_time.Reads as a-standard-time
 
 a-read-one : OneResult a-read.Post
 a-read-one κs a r r′ s s′ = one-outcome
@@ -61,3 +62,6 @@ a-moment-one κs a r r′ s s′ = one-outcome
 
 b-moment-one : OneResult b-moment.Post
 b-moment-one κs a r r′ s s′ = one-outcome
+
+a-standard-time-one : OneResult a-standard-time.Post
+a-standard-time-one κs a r r′ s s′ = one-outcome

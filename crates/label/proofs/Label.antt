@@ -9,7 +9,7 @@ use native.Mathlib.Numerals.{unary-clauses}
 use native.Mathlib.Omega.{arith}
 use borrow.Author.Tests.{eqb-true, leb-true, eq-eqb, le-leb}
 use lib.Dec.{ltb, leb, eqb}
-use lib.IntN.{ℤ, pos}
+use lib.IntN.{ℤ, pos, _-ℤ_}
 use lib.ListN.{length, getD, take, drop}
 use lib.Seq.{getD-take, getD-drop}
 use lib.Signed.{mag, ltZ}
@@ -18,6 +18,7 @@ use mir.Val.{toZ, ofZ}
 use mir.Facts.{toZ-ofZ, toZ-pos}
 use Rattle.octets.specs.Bits.{bits_to_of_}
 use Rattle.octets.specs.Conditions.{holds}
+use Rattle.octets.proofs.Choice.{same-test}
 use Rattle.octets.proofs.Computed.{at-each}
 use Rattle.octets.proofs.Conditions.{holds-at}
 use Rattle.octets.proofs.Lists.{part-at}
@@ -27,7 +28,8 @@ use Rattle.label.specs.declared.LabelB.{LabelB}
 use Rattle.label.specs.declared.Moment.{Moment}
 use Rattle.label.specs.Calendar.{leap, monthLength}
 use Rattle.label.specs.Time.{real, minutes}
-use Rattle.label.specs.Label.{labelAAt, labelBAt, labelAOctets, labelBOctets, dateTimeA, validA, instant, beforeA, second, millisecond, validB, inMinute, beforeB}
+use Rattle.label.specs.Label.{labelAAt, labelBAt, labelAOctets, labelBOctets, dateTimeA, validA, su, instant, beforeA, second, millisecond, validB, inMinute, beforeB}
+use Rattle.label.specs.Standard.{asItStands, hourEarlier, standardA}
 use Rattle.label.specs.Calls.{momentOf}
 use Rattle.label.proofs.Time.{real-facts, real-but-day}
 
@@ -139,22 +141,51 @@ valid-but-day l o =
     (real-but-day (dateTimeA l) (omega arith) (omega arith) (omega arith) (omega arith) (omega arith) (omega arith)
     ∙ valid-but-real l (omega arith) (omega arith) (omega arith) (omega arith) (omega arith))
 
-pub instant-valid : (l : LabelA) → validA l ≡ true → instant l ≡ pos (minutes (dateTimeA l))
-unfolding instant
-instant-valid l e = rw e
+-- SU is the highest bit of the hour's octet
+pub su-highest : (l : LabelA) → l .hour < 256 → leb 128 (l .hour) ≡ eqb (su l) 1
+su-highest l small =
+    same-test (leb 128 (l .hour)) (eqb (su l) 1)
+    (λ e. eq-eqb (su l) 1 (omega (arith, leb-true 128 (l .hour) e)))
+    (λ e. le-leb 128 (l .hour) (omega (arith, eqb-true (su l) 1 e)))
 
+-- the instant of a label that is not valid; of a valid one in standard time; of one in summer time
 pub instant-not : (l : LabelA) → validA l ≡ false → instant l ≡ pos 0
 unfolding instant
 instant-not l e = rw e
 
--- no instant is negative
-pub instant-pos : (l : LabelA) → instant l ≡ pos (mag (instant l))
-unfolding instant
-instant-pos l = refl
+module _ (l : LabelA) (v : validA l ≡ true) where
+  pub instant-standard : eqb (su l) 1 ≡ false → instant l ≡ pos (minutes (dateTimeA l))
+  unfolding instant
+  instant-standard s = rw (v, s)
 
--- of a valid label, as the machine counts it
-pub instant-counted : (l : LabelA) (t : DateTime) (n : ℕ) → n < 2 ^ 63 → validA l ≡ true → t ≡ dateTimeA l → n ≡ minutes t → toZ w64 n ≡ instant l
-instant-counted l t n h v e d = toZ-pos w64 {n = n} h ∙ ap pos (d ∙ ap minutes e) ∙ sym (instant-valid l v)
+  pub instant-summer : eqb (su l) 1 ≡ true → instant l ≡ pos (minutes (dateTimeA l)) -ℤ pos 60
+  unfolding instant
+  instant-summer s = rw (v, s)
+
+-- as the machine counts it
+module _ (l : LabelA) (t : DateTime) (n : ℕ) (h : n < 2 ^ 32) (v : validA l ≡ true) (e : t ≡ dateTimeA l) (d : n ≡ minutes t) where
+  counted : toZ w64 n ≡ pos (minutes (dateTimeA l))
+  counted = toZ-pos w64 {n = n} (omega arith) ∙ ap pos (d ∙ ap minutes e)
+
+  pub standard-counted : eqb (su l) 1 ≡ false → toZ w64 n ≡ instant l
+  standard-counted s = counted ∙ sym (instant-standard l v s)
+
+  pub summer-counted : eqb (su l) 1 ≡ true → toZ w64 n -ℤ pos 60 ≡ instant l
+  summer-counted s = ap (λ (z : ℤ). z -ℤ pos 60) counted ∙ sym (instant-summer l v s)
+
+-- what a label says in standard time: in summer time, in standard time, not valid
+module _ (l : LabelA) (t : DateTime) (e : t ≡ dateTimeA l) where
+  pub from-summer : validA l ≡ true → eqb (su l) 1 ≡ true → hourEarlier t ≡ standardA l
+  unfolding standardA
+  from-summer v s = rw (e, v, s)
+
+  pub from-standard : validA l ≡ true → eqb (su l) 1 ≡ false → asItStands t ≡ standardA l
+  unfolding standardA
+  from-standard v s = rw (e, v, s)
+
+  pub from-not-valid : validA l ≡ false → asItStands t ≡ standardA l
+  unfolding standardA
+  from-not-valid v = rw (e, v)
 
 pub record ValidB (l : LabelB) : Type 0 where
   pub second-last : second l ≤ 59

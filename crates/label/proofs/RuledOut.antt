@@ -3,25 +3,32 @@
 use Prim.Native.Nat.{ℕ, _+_, _*_, _%_, _≤_}
 use mathlib.Core.Bool.{Bool, true, false, false≢true}
 use mathlib.Core.List.{List, [], _∷_}
-use mathlib.Core.Path.{_≡_, sym, ap, _∙_}
+use mathlib.Core.Path.{_≡_, refl, sym, ap, _∙_}
 use native.Mathlib.Omega.{arith}
 use contract.Lifetimes.{Lfts}
-use lib.IntN.{ℤ, pos, natAbs}
+use lib.IntN.{ℤ, pos, natAbs, _-ℤ_}
 use lib.ListN.{length, getD}
-use borrow.Author.Tests.{ltb-true, eqb-true, le-ltb}
+use lib.Signed.{nonNeg}
+use borrow.Author.Tests.{eqb-true, eq-eqb}
 use Rattle.octets.specs.Bits.{bits_to_of_}
 use Rattle.octets.specs.Conditions.{holds}
 use Rattle.octets.specs.Numbers.{lowFirst}
+use Rattle.octets.proofs.Choice.{not-both}
 use Rattle.octets.proofs.Conditions.{holds-at}
 use Rattle.octets.proofs.Outcome.{RuledOut, Place, lent, never}
 use Rattle.label.specs.declared.DateTime.{DateTime}
 use Rattle.label.specs.declared.LabelA.{LabelA}
 use Rattle.label.specs.declared.LabelB.{LabelB}
 use Rattle.label.specs.declared.Moment.{Moment}
+use Rattle.label.specs.declared.StandardTime.{StandardTime}
 use Rattle.label.specs.Calendar.{leap, leapDay, monthLength, daysOfMonths, daysToYear, dayNumber}
 use Rattle.label.specs.Time.{real, minutes}
-use Rattle.label.specs.Label.{labelAAt, labelBAt, labelAOctets, labelBOctets, dateTimeA, validA, instant, beforeA, millisecond, second, validB, inMinute, beforeB}
+use Rattle.label.specs.Label.{labelAAt, labelBAt, labelAOctets, labelBOctets, dateTimeA, validA, su, instant, beforeA, millisecond, second, validB, inMinute, beforeB}
+use Rattle.label.specs.Standard.{standardAt, asItStands, hourEarlier, standardA}
 use Rattle.label.specs.Calls.{momentOf}
+use Rattle.label.proofs.Label.{instant-standard, instant-summer}
+use Rattle.label.proofs.Instant.{less-back, a-at-once, a-not-after, b-not-itself}
+use Rattle.label.proofs.Order.{hour-gone}
 use Rattle.label.proofs.LabelA.read.Reads as a-read
 use Rattle.label.proofs.LabelA.octets.Reads as a-octets
 use Rattle.label.proofs.LabelB.read.Reads as b-read
@@ -31,6 +38,7 @@ use Rattle.label.proofs.LabelA.is_valid.Reads as a-is-valid
 use Rattle.label.proofs.LabelA.instant.Reads as a-instant
 use Rattle.label.proofs.LabelA.is_before.Reads as a-is-before
 use Rattle.label.proofs.LabelA.moment.Reads as a-moment
+use Rattle.label.proofs.LabelA.standard_time.Reads as a-standard-time
 use Rattle.label.proofs.LabelB.second.Reads as b-second
 use Rattle.label.proofs.LabelB.millisecond.Reads as b-millisecond
 use Rattle.label.proofs.LabelB.is_valid.Reads as b-is-valid
@@ -46,6 +54,10 @@ the-label = tt
 the-instant : Unit {0}
 unfolding instant minutes dayNumber daysToYear daysOfMonths the-label
 the-instant = tt
+
+the-standard : Unit {0}
+unfolding standardA hourEarlier asItStands the-label
+the-standard = tt
 
 -- a date and time; a label a by its octets as they stand; and with two octets in front
 abbrev date : ℕ → ℕ → ℕ → ℕ → ℕ → DateTime
@@ -200,21 +212,45 @@ module _ (κs : Lfts 0) where
   unfolding instant
   a-instant-not-valid l n not-valid more s p = more (ap natAbs (rw not-valid at p))
 
+  -- the minute that its clock shows as the instant of a label in summer time, whatever valid label it is
+  a-instant-shown : (l : LabelA) → validA l ≡ true → su l ≡ 1 → RuledOut (a-instant.Post κs) (l, tt) (pos (minutes (dateTimeA l)))
+  a-instant-shown l valid summer s p = omega (arith, less-back (minutes (dateTimeA l)) (minutes (dateTimeA l)) (sym (p ∙ instant-summer l valid (eq-eqb (su l) 1 summer))))
+
+  -- an hour added in summer time, whatever valid label it is
+  a-instant-added : (l : LabelA) → validA l ≡ true → su l ≡ 1 → RuledOut (a-instant.Post κs) (l, tt) (pos (minutes (dateTimeA l) + 60))
+  a-instant-added l valid summer s p = omega (arith, less-back (minutes (dateTimeA l)) (minutes (dateTimeA l) + 60) (sym (p ∙ instant-summer l valid (eq-eqb (su l) 1 summer))))
+
+  -- an hour taken off a label in standard time, whatever valid label it is
+  a-instant-standard : (l : LabelA) → validA l ≡ true → su l ≡ 0 → RuledOut (a-instant.Post κs) (l, tt) (pos (minutes (dateTimeA l)) -ℤ pos 60)
+  a-instant-standard l valid standard s p = omega (arith, less-back (minutes (dateTimeA l)) (minutes (dateTimeA l)) (p ∙ instant-standard l valid (rw standard)))
+
+  -- 1 January 2000 00:15 in summer time at 0 or behind, as where no instant is negative
+  a-instant-negative : (n : ℕ) → RuledOut (a-instant.Post κs) (labelA 15 0x80 1 1 0, tt) (pos n)
+  unfolding the-instant
+  a-instant-negative n s p = false≢true (sym (ap nonNeg p))
+
   -- a label before itself, whatever label it is
   a-is-before-same : (l : LabelA) → RuledOut (a-is-before.Post κs) (l, (l, tt)) true
-  unfolding beforeA instant
-  a-is-before-same l s p = omega (arith, ltb-true (natAbs (instant l)) (natAbs (instant l)) (sym p))
+  a-is-before-same l s p = not-both (a-at-once l l refl) (sym p)
 
   -- the later label before the earlier, whatever labels they are
   a-is-before-other : (l m : LabelA) → beforeA l m ≡ true → RuledOut (a-is-before.Post κs) (m, (l, tt)) true
-  unfolding beforeA instant
-  a-is-before-other l m before s p =
-      omega (arith, ltb-true (natAbs (instant l)) (natAbs (instant m)) before, ltb-true (natAbs (instant m)) (natAbs (instant l)) (sym p))
+  a-is-before-other l m before s p = not-both (a-not-after l m before) (sym p)
 
   -- octets compared as they stand, the minute first: 00:59 not before 01:00
   a-is-before-octets : RuledOut (a-is-before.Post κs) (labelA 59 0 1 1 0, (labelA 0 1 1 1 0, tt)) false
   unfolding beforeA the-instant
   a-is-before-octets s p = never (cc)
+
+  -- the hour that comes twice in autumn without an order: 28 October 2001 02:15 in summer time not before 02:15 in standard time
+  a-is-before-autumn : RuledOut (a-is-before.Post κs) (labelA 0x0F 0x82 0xFC 0x0A 1, (labelA 0x0F 0x02 0xFC 0x0A 1, tt)) false
+  unfolding beforeA the-instant
+  a-is-before-autumn s p = never (cc)
+
+  -- SU compared as a bit: 28 October 2001 03:15 in summer time before 02:15 in standard time, which is the same instant
+  a-is-before-bit : RuledOut (a-is-before.Post κs) (labelA 0x0F 0x83 0xFC 0x0A 1, (labelA 0x0F 0x02 0xFC 0x0A 1, tt)) true
+  unfolding beforeA the-instant
+  a-is-before-bit s p = never (cc)
 
   -- the moment of a valid label told as not valid, whatever the instant
   a-moment-valid : (l : LabelA) (i : ℤ) → validA l ≡ true → RuledOut (a-moment.Post κs) (l, tt) (record { valid = false; minute = i })
@@ -230,6 +266,26 @@ module _ (κs : Lfts 0) where
   a-moment-days : (v : Bool) → RuledOut (a-moment.Post κs) (labelA 0 0 2 1 0, tt) (record { valid = v; minute = pos 1 })
   unfolding momentOf the-instant
   a-moment-days v s p = omega (arith, ap (λ (r : Moment). natAbs (r .minute)) p)
+
+  -- the moment of a label in summer time with the minute that its clock shows, whatever valid label it is
+  a-moment-shown : (l : LabelA) (v : Bool) → validA l ≡ true → su l ≡ 1 → RuledOut (a-moment.Post κs) (l, tt) (record { valid = v; minute = pos (minutes (dateTimeA l)) })
+  unfolding momentOf
+  a-moment-shown l v valid summer s p =
+      omega (arith, less-back (minutes (dateTimeA l)) (minutes (dateTimeA l)) (sym (ap (λ (r : Moment). r .minute) p ∙ instant-summer l valid (eq-eqb (su l) 1 summer))))
+
+  -- a label in summer time told as its clock shows it, whatever valid label it is
+  a-standard-time-shown : (l : LabelA) → validA l ≡ true → su l ≡ 1 → RuledOut (a-standard-time.Post κs) (l, tt) (asItStands (dateTimeA l))
+  a-standard-time-shown l valid summer s p = hour-gone l valid summer (sym p)
+
+  -- 1 March 2000 00:15 in summer time on 28 February
+  a-standard-time-leap : RuledOut (a-standard-time.Post κs) (labelA 15 0x80 1 3 0, tt) (standardAt 2000 2 28 23 15)
+  unfolding the-standard
+  a-standard-time-leap s p = omega (arith, ap (λ (r : StandardTime). r .day) p)
+
+  -- 1 January 2000 00:15 in summer time in any other year than 1999
+  a-standard-time-year : (r : StandardTime) → (r .year ≡ 1999 → ⊥) → RuledOut (a-standard-time.Post κs) (labelA 15 0x80 1 1 0, tt) r
+  unfolding the-standard
+  a-standard-time-year r other s p = other (ap (λ (r : StandardTime). r .year) p)
 
   module _ (a : LabelA) where
     -- the seconds of E7 EF with the upper bit of the milliseconds
@@ -294,9 +350,7 @@ module _ (κs : Lfts 0) where
 
   -- a label before itself, whatever label it is
   b-is-before-same : (l : LabelB) → RuledOut (b-is-before.Post κs) (l, (l, tt)) true
-  unfolding beforeB beforeA instant
-  b-is-before-same l s p =
-      never (cc (le-ltb (natAbs (instant (l .a))) (natAbs (instant (l .a))) (omega arith), le-ltb (inMinute l) (inMinute l) (omega arith)))
+  b-is-before-same l s p = not-both (b-not-itself l) (sym p)
 
   -- the earlier minute not before the later, whatever the seconds and milliseconds
   b-is-before-minute : (l m : LabelB) → beforeA (l .a) (m .a) ≡ true → RuledOut (b-is-before.Post κs) (l, (m, tt)) false
@@ -305,5 +359,5 @@ module _ (κs : Lfts 0) where
 
   -- octets compared as they stand: 256 milliseconds before 255 of the same second
   b-is-before-octets : (a : LabelA) → RuledOut (b-is-before.Post κs) (labelB 0 1 a, (labelB 0xFF 0 a, tt)) true
-  unfolding beforeB beforeA instant inMinute second millisecond lowFirst
-  b-is-before-octets a s p = never (cc (le-ltb (natAbs (instant a)) (natAbs (instant a)) (omega arith)))
+  unfolding beforeB inMinute second millisecond lowFirst
+  b-is-before-octets a s p = never (cc (a-at-once a a refl))

@@ -1,10 +1,10 @@
--- Labels a and b. Document 01, "Label a: ..", sentence by sentence; the bits are numbered from 1.
+-- Labels a and b. Document 01, "Label a: ..", sentence by sentence, and for their order document 02, #102; the bits are numbered from 1.
 -- Assumes nothing.
 use Prim.Native.Nat.{ℕ, _+_, _*_}
-use mathlib.Core.Bool.{Bool, true, false}
+use mathlib.Core.Bool.{Bool, true, false, not}
 use mathlib.Core.List.{List, [], _∷_}
 use lib.Dec.{ltb, leb, eqb}
-use lib.IntN.{ℤ, pos}
+use lib.IntN.{ℤ, pos, _-ℤ_}
 use lib.ListN.{getD}
 use lib.Signed.{ltZ}
 use Rattle.octets.specs.Bits.{bits_to_of_}
@@ -55,9 +55,17 @@ validA l =
     ∷ eqb (bits 8 to 8 of (l .year)) 0
     ∷ [])
 
--- the minutes since 1 January 2000 00:00, a signed number; a label that is not valid has 0, so that every label has an instant
+-- SU: 1 in summer time
+abbrev pub su : LabelA → ℕ
+su l = bits 8 to 8 of (l .hour)
+
+-- "Labels a and b are compared in standard time: with SU 1 the label counts one hour earlier" (#102). The minutes since 1 January 2000 00:00, a signed
+-- number: "a summer label in the first hour of 2000 lies before the year's start". A label that is not valid has 0, so that every label has an instant
 unfoldable pub instant : LabelA → ℤ
-instant l = pos (if validA l then minutes (dateTimeA l) else 0)
+instant l =
+    if not (validA l) then pos 0 else
+    if eqb (su l) 1 then pos (minutes (dateTimeA l)) -ℤ pos 60 else
+    pos (minutes (dateTimeA l))
 
 unfoldable pub beforeA : LabelA → LabelA → Bool
 beforeA l l′ = ltZ (instant l) (instant l′)
@@ -83,6 +91,6 @@ beforeB l l′ =
     if beforeA (l′ .a) (l .a) then false else
     ltb (inMinute l) (inMinute l′)
 
--- the parts by which labels a are compared on paper
+-- its parts as they stand
 unfoldable pub partsA : LabelA → List ℕ
 partsA l = partsOf (dateTimeA l)

@@ -1,4 +1,5 @@
 pub mod Calendar
 pub mod Time
 pub mod Label
+pub mod Standard
 pub mod Calls

@@ -25,6 +25,6 @@ real t =
 unfoldable pub minutes : DateTime → ℕ
 minutes t = dayNumber (t .year) (t .month) (t .day) * 1440 + (t .hour * 60 + t .minute)
 
--- compared by year, month, day, hour, minute
+-- its parts: year, month, day, hour, minute
 unfoldable pub partsOf : DateTime → List ℕ
 partsOf t = t .year ∷ t .month ∷ t .day ∷ t .hour ∷ t .minute ∷ []

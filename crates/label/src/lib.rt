@@ -4,12 +4,23 @@ ghost use mathlib.Core.Bool.{true};
 ghost use Prim.Native.Nat.{_+_, _-_, _≤_, _<_};
 ghost use Rattle.label.specs.Calendar.{leap, leapDay, monthLength, daysToYear, daysOfMonths};
 ghost use Rattle.label.specs.Time.{real, minutes};
-ghost use Rattle.label.specs.Label.{labelAAt, labelBAt, labelAOctets, labelBOctets, dateTimeA, validA, instant, beforeA, second, millisecond, validB, inMinute, beforeB};
+ghost use lib.Dec.{leb, eqb};
+ghost use Rattle.label.specs.Label.{labelAAt, labelBAt, labelAOctets, labelBOctets, dateTimeA, validA, su, instant, beforeA, second, millisecond, validB, inMinute, beforeB};
+ghost use Rattle.label.specs.Standard.{standardAt, asItStands, hourEarlier, standardA};
 ghost use Rattle.label.specs.Calls.{momentOf};
 
 // A date and time: the year's last two figures, 0 to 99 for 2000 to 2099. Any five numbers are a value; not every one is a real date.
 pub struct DateTime {
     pub year: u8,
+    pub month: u8,
+    pub day: u8,
+    pub hour: u8,
+    pub minute: u8,
+}
+
+// A date and time in standard time. Its year is whole: a summer label in the first hour of 2000 lies in 1999.
+pub struct StandardTime {
+    pub year: u16,
     pub month: u8,
     pub day: u8,
     pub hour: u8,
@@ -46,6 +57,57 @@ impl DateTime {
     {
         let day = days_before(self.year, self.month) + self.day as u32 - 1;
         day * 1440 + self.hour as u32 * 60 + self.minute as u32
+    }
+
+    // As a clock in standard time shows it.
+    fn as_it_stands(self) -> StandardTime
+        ensures { λ r. ⌜ r ≡ asItStands self ⌝ }
+    {
+        StandardTime {
+            year: 2000 + self.year as u16,
+            month: self.month,
+            day: self.day,
+            hour: self.hour,
+            minute: self.minute,
+        }
+    }
+
+    // In the last hour of a day, at its minute.
+    fn last_hour_of(self, year: u16, month: u8, day: u8) -> StandardTime
+        ensures { λ r. ⌜ r ≡ standardAt year month day 23 (self .minute) ⌝ }
+    {
+        StandardTime {
+            year,
+            month,
+            day,
+            hour: 23,
+            minute: self.minute,
+        }
+    }
+
+    // One hour earlier.
+    fn hour_earlier(self) -> StandardTime
+        requires { ⌜ real self ≡ true ⌝ }
+        ensures { λ r. ⌜ r ≡ hourEarlier self ⌝ }
+    {
+        let year = 2000 + self.year as u16;
+        if 0 < self.hour {
+            return StandardTime {
+                year,
+                month: self.month,
+                day: self.day,
+                hour: self.hour - 1,
+                minute: self.minute,
+            };
+        }
+        if 1 < self.day {
+            return self.last_hour_of(year, self.month, self.day - 1);
+        }
+        if 1 < self.month {
+            let month = self.month - 1;
+            return self.last_hour_of(year, month, month_length(self.year, month));
+        }
+        self.last_hour_of(1999 + self.year as u16, 12, 31)
     }
 }
 
@@ -110,15 +172,34 @@ impl LabelA {
         if day < 1 {
             return false;
         }
-        day <= month_length(self.year, self.month)
+        has_day(self.year, self.month, day)
     }
 
-    // The minutes since 1 January 2000 00:00, and 0 of a label that is not valid.
+    // Whether it is told in summer time: SU is the highest bit of the hour's octet.
+    fn is_summer(self) -> bool
+        ensures { λ r. ⌜ r ≡ eqb (su self) 1 ⌝ }
+    {
+        128 <= self.hour
+    }
+
+    // The standard-time minute of a valid label, since 1 January 2000 00:00: in summer time one hour earlier.
+    fn standard_minute(self) -> i64
+        requires { ⌜ validA self ≡ true ⌝ }
+        ensures { λ r. ⌜ r ≡ instant self ⌝ }
+    {
+        let minute = self.date_time().minutes() as i64;
+        if self.is_summer() {
+            return minute - 60;
+        }
+        minute
+    }
+
+    // The minutes since 1 January 2000 00:00 in standard time, and 0 of a label that is not valid.
     pub fn instant(self) -> i64
         ensures { λ r. ⌜ r ≡ instant self ⌝ }
     {
         if self.is_valid() {
-            return self.date_time().minutes() as i64;
+            return self.standard_minute();
         }
         0
     }
@@ -128,7 +209,7 @@ impl LabelA {
         ensures { λ r. ⌜ r ≡ momentOf (validA self) self ⌝ }
     {
         if self.is_valid() {
-            let minute = self.date_time().minutes() as i64;
+            let minute = self.standard_minute();
             return Moment {
                 valid: true,
                 minute,
@@ -138,6 +219,20 @@ impl LabelA {
             valid: false,
             minute: 0,
         }
+    }
+
+    // What it says in standard time; a label that is not valid is taken as it stands.
+    pub fn standard_time(self) -> StandardTime
+        ensures { λ r. ⌜ r ≡ standardA self ⌝ }
+    {
+        let said = self.date_time();
+        if self.is_valid() {
+            if self.is_summer() {
+                return said.hour_earlier();
+            }
+            return said.as_it_stands();
+        }
+        said.as_it_stands()
     }
 
     // Whether it lies before another label by their instants.
@@ -207,7 +302,7 @@ impl LabelB {
     {
         let a = self.a;
         if a.is_valid() {
-            let minute = a.date_time().minutes() as i64;
+            let minute = a.standard_minute();
             if self.second() <= 59 {
                 return Moment {
                     valid: self.millisecond() <= 999,
@@ -271,6 +366,17 @@ fn month_length(year: u8, month: u8) -> u8
         return length + leap_day(year);
     }
     length
+}
+
+// Whether a month has a day. No month has fewer than 28, so that most days need no look into the table.
+fn has_day(year: u8, month: u8, day: u8) -> bool
+    requires { ⌜ (year < 100) × (1 ≤ month) × (month ≤ 12) ⌝ }
+    ensures { λ r. ⌜ r ≡ leb day (monthLength (leap year) month) ⌝ }
+{
+    if day <= 28 {
+        return true;
+    }
+    day <= month_length(year, month)
 }
 
 // The days from 1 January 2000 to the first of a month.

@@ -17,5 +17,6 @@ pub mod Worked
 pub mod Noisy
 pub mod Cases
 pub mod Ranges
+pub mod AutumnHour
 pub mod Wrong
 pub mod Unruly

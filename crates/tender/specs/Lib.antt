@@ -6,5 +6,6 @@ pub mod Condition3
 pub mod Rules
 pub mod Cases
 pub mod Ranges
+pub mod AutumnHour
 pub mod Wrong
 pub mod Unruly

@@ -1,9 +1,8 @@
 -- `LabelA::instant` answers the instant, and 0 of a label that is not valid.
 -- By the two cases of validity. Assumes nothing.
-use mathlib.Core.Path.{ap, sym, _∙_}
+use mathlib.Core.Path.{sym, _∙_}
 use Rattle.octets.proofs.Choice.{told}
-use Rattle.label.specs.Time.{real}
-use Rattle.label.proofs.Label.{valid-a, instant-counted, instant-not}
+use Rattle.label.proofs.Label.{back, instant-not}
 use borrow.Author.Needs.{needs}
 use Rattle.label.proofs.LabelA.instant.Statement.{statement}
 use Rattle.label.proofs.LabelA.instant.Tie as tie
@@ -11,24 +10,14 @@ use Rattle.label.proofs.LabelA.instant.Tie as tie
 is-valid-requires : tie.Need-is-valid-requires
 is-valid-requires c κs = search needs
 
-date-time-requires : tie.Need-date-time-requires
-date-time-requires c κs = search needs
-
-minutes-requires : tie.Need-minutes-requires
-minutes-requires c κs = ap real (c .date-time .ensures) ∙ valid-a _ (told (c .before .before .is-valid .ensures) (c .before .if1 .taken)) .real-time
-
-cast-result : tie.Need-cast-result
-cast-result c = search needs
+standard-minute-requires : tie.Need-standard-minute-requires
+standard-minute-requires c κs = told (c .before .is-valid .ensures) (c .if1 .taken)
 
 returns : tie.Need-returns
-returns c =
-    let valid = told (c .before .before .before .is-valid .ensures) (c .before .before .if1 .taken) in
-    instant-counted _ _ (c .minutes .result) (search needs) valid (c .before .date-time .ensures) (c .minutes .ensures)
+returns c = back (c .standard-minute .result) (c .standard-minute .ok) ∙ c .standard-minute .ensures
 
 returns-2 : tie.Need-returns-2
 returns-2 c = sym (instant-not _ (told (c .before .is-valid .ensures) (c .if1 .left)))
 
 pub instant-spec : {M : Type 1} → statement M
-instant-spec =
-    tie.close
-    (tie.spec is-valid-requires date-time-requires minutes-requires cast-result returns returns-2)
+instant-spec = tie.close (tie.spec is-valid-requires standard-minute-requires returns returns-2)

@@ -1,8 +1,7 @@
 -- `LabelA::is_valid` answers whether a label a is valid.
 -- An octet that is too large or too small refutes it; where none is, the day's end decides. Assumes nothing.
 use native.Mathlib.Omega.{arith}
-use mathlib.Core.Path.{ap, _∙_}
-use lib.Dec.{leb}
+use mathlib.Core.Path.{_∙_}
 use Rattle.octets.proofs.Choice.{refuted}
 use Rattle.label.proofs.Label.{octets-a, valid-but-day}
 use borrow.Author.Needs.{needs}
@@ -27,12 +26,12 @@ returns-5 c = refuted _ (λ e. let h = octets-a _ (search needs) (search needs) 
 returns-6 : tie.Need-returns-6
 returns-6 c = refuted _ (λ e. let h = octets-a _ (search needs) (search needs) (search needs) (search needs) e in omega arith)
 
-month-length-requires : tie.Need-month-length-requires
-month-length-requires c κs = search needs
+has-day-requires : tie.Need-has-day-requires
+has-day-requires c κs = search needs
 
 returns-7 : tie.Need-returns-7
 returns-7 c =
-    ap (leb _) (c .month-length .ensures)
+    c .has-day .ensures
     ∙ valid-but-day _
     (record {
       minute = search needs;
@@ -53,5 +52,5 @@ is-valid-spec =
     returns-4
     returns-5
     returns-6
-    month-length-requires
+    has-day-requires
     returns-7)

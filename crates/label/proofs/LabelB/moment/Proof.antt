@@ -4,8 +4,7 @@ use mathlib.Core.Path.{ap, sym, _∙_}
 use native.Mathlib.Omega.{arith}
 use lib.Dec.{leb}
 use Rattle.octets.proofs.Choice.{told, refuted, not-both}
-use Rattle.label.specs.Time.{real}
-use Rattle.label.proofs.Label.{valid-a, valid-b, instant-counted, instant-not, valid-but-millisecond, moment-is}
+use Rattle.label.proofs.Label.{valid-b, back, instant-not, valid-but-millisecond, moment-is}
 use borrow.Author.Needs.{needs}
 use Rattle.label.proofs.LabelB.moment.Statement.{statement}
 use Rattle.label.proofs.LabelB.moment.Tie as tie
@@ -13,14 +12,8 @@ use Rattle.label.proofs.LabelB.moment.Tie as tie
 is-valid-requires : tie.Need-is-valid-requires
 is-valid-requires c κs = search needs
 
-date-time-requires : tie.Need-date-time-requires
-date-time-requires c κs = search needs
-
-minutes-requires : tie.Need-minutes-requires
-minutes-requires c κs = ap real (c .date-time .ensures) ∙ valid-a _ (told (c .before .before .is-valid .ensures) (c .before .if1 .taken)) .real-time
-
-cast-minute : tie.Need-cast-minute
-cast-minute c = search needs
+standard-minute-requires : tie.Need-standard-minute-requires
+standard-minute-requires c κs = told (c .before .is-valid .ensures) (c .if1 .taken)
 
 second-requires : tie.Need-second-requires
 second-requires c κs = search needs
@@ -30,17 +23,14 @@ millisecond-requires c κs = search needs
 
 returns : tie.Need-returns
 returns c =
-    let minutes = c .before .before .before .minutes in
-    let valid = told (c .before .before .before .before .before .before .is-valid .ensures) (c .before .before .before .before .before .if1 .taken) in
-    moment-is _ _ _ _ (ap (λ n. leb n 999) (c .millisecond .ensures) ∙ valid-but-millisecond _ valid (search needs))
-    (instant-counted _ _ (minutes .result) (search needs) valid (c .before .before .before .before .date-time .ensures) (minutes .ensures))
+    let minute = c .before .before .before .standard-minute in
+    let valid = told (c .before .before .before .before .before .is-valid .ensures) (c .before .before .before .before .if1 .taken) in
+    moment-is _ _ _ _ (ap (λ n. leb n 999) (c .millisecond .ensures) ∙ valid-but-millisecond _ valid (search needs)) (back (minute .result) (minute .ok) ∙ minute .ensures)
 
 returns-2 : tie.Need-returns-2
 returns-2 c =
-    let minutes = c .before .before .minutes in
-    let valid = told (c .before .before .before .before .before .is-valid .ensures) (c .before .before .before .before .if1 .taken) in
-    moment-is _ _ _ _ (refuted _ (λ e. let h = valid-b _ e in omega arith))
-    (instant-counted _ _ (minutes .result) (search needs) valid (c .before .before .before .date-time .ensures) (minutes .ensures))
+    let minute = c .before .before .standard-minute in
+    moment-is _ _ _ _ (refuted _ (λ e. let h = valid-b _ e in omega arith)) (back (minute .result) (minute .ok) ∙ minute .ensures)
 
 returns-3 : tie.Need-returns-3
 returns-3 c =
@@ -52,9 +42,7 @@ moment-spec =
     tie.close
     (tie.spec
     is-valid-requires
-    date-time-requires
-    minutes-requires
-    cast-minute
+    standard-minute-requires
     second-requires
     millisecond-requires
     returns
