@@ -1,8 +1,8 @@
 -- Document 02, #102, "The autumn hour", sentence by sentence, as statements about the definition: labels are compared in standard time, by the calendar and not only as
 -- minutes, and wherever labels are compared. They shut out a definition that leaves SU out; one that adds the hour, takes it off the labels with SU 0, or compares SU as a
 -- bit; one that takes one off the hour's number and leaves day, month or year; one for which no instant is negative, so that the first hour of 2000 in summer time
--- lies elsewhere; one that orders readings so and events not, or chooses by what the clocks show, or asks so whether the first label lies after the last; and one that judges SU.
--- Assumes nothing.
+-- lies elsewhere; one that puts readings in order so and events not; one that chooses, or finds the first label after the last, by what the clocks show; and one that
+-- judges SU. Assumes nothing.
 use Prim.Native.Nat.{ℕ, _+_, _<_}
 use mathlib.Core.Bool.{Bool, true, false, not, _&&_}
 use mathlib.Core.List.{List, [], _∷_, map}
