@@ -23,8 +23,6 @@ struct driving {
     uint8_t octets[DRIVE_OCTETS_MOST];
 };
 
-enum call_read { CALL_DONE, CALL_CUT, CALL_WRONG, CALL_NONE };
-
 static void driving_begin(struct driving *driving)
 {
     card_power_on(&driving->card);
@@ -34,20 +32,11 @@ static void driving_begin(struct driving *driving)
     driving->buffer_lent = FRAME_OCTETS_MOST;
 }
 
-/* "`I`, 3-octet length, image octets (at most 65,600)". A cut call is the last
-   one, so it is no matter that part of the image has been written over. */
+/* "`I`, 3-octet length, image octets (at most 65,600)" */
 static enum call_read call_image(FILE *in, struct driving *driving)
 {
-    size_t length;
-
-    if (!read_number(in, 3, &length))
-        return CALL_CUT;
-    if (length > sizeof driving->image)
-        return CALL_WRONG;
-    if (!read_octets(in, driving->image, length))
-        return CALL_CUT;
-    driving->image_length = length;
-    return CALL_DONE;
+    return read_counted(in, driving->image, sizeof driving->image,
+                        &driving->image_length);
 }
 
 static enum call_read call_clock(FILE *in, struct driving *driving)
@@ -132,11 +121,7 @@ int main(void)
     driving_begin(&driving);
     while (read == CALL_DONE && written) {
         read = next_call(stdin, stdout, &driving);
-        if (read == CALL_CUT)
-            fputs("cut\n", stdout);
-        if (read == CALL_WRONG)
-            fputs("call\n", stdout);
-        written = fflush(stdout) == 0;
+        written = close_call(stdout, read);
     }
     return written ? EXIT_SUCCESS : EXIT_FAILURE;
 }

@@ -18,6 +18,24 @@ bool read_number(FILE *in, size_t octets, size_t *number)
     return true;
 }
 
+enum call_read read_counted(FILE *in, uint8_t *octets, size_t most, size_t *length)
+{
+    if (!read_number(in, 3, length))
+        return CALL_CUT;
+    if (*length > most)
+        return CALL_WRONG;
+    return read_octets(in, octets, *length) ? CALL_DONE : CALL_CUT;
+}
+
+bool close_call(FILE *out, enum call_read read)
+{
+    if (read == CALL_CUT)
+        fputs("cut\n", out);
+    if (read == CALL_WRONG)
+        fputs("call\n", out);
+    return fflush(out) == 0;
+}
+
 const char *order_name(enum order order)
 {
     switch (order) {

@@ -1,15 +1,19 @@
 #!/usr/bin/env python3
-"""compare.py [FIRST SECOND] [--seed S] [--print N] [--drive N] [--fixed]
+"""compare.py [FIRST SECOND] [--seed S] [--print N] [--drive N] [--lookup N] [--book N] [--fixed]
 
-Gives the same inputs to the programs `print` and `drive` of two folders and compares what they write, octet for octet.
+Gives the same inputs to the programs `print`, `drive`, `lookup` and `book` of two folders and compares what they write,
+octet for octet; of `book` also what it writes on standard error, up to the first colon.
 Without folders: the proved programs and the second program, both built.
 
-    --fixed      the fixed set: every systematic input (systematic.py) and conversations of fixed seeds
+    --fixed      the fixed set: every systematic input (systematic.py, books.py) and random ones of fixed seeds
     --print N    conversations from seed S until N runs have been printed by each program
     --drive N    the same until N gaps have been driven
+    --lookup N   books and look-ups from seed S until N calls have been answered by each program
+    --book N     N texts and books from seed S
     --seed S     the seed of these, 1 if not given
 
-Ends at the first difference: status 1, the input in a file `difference-FACE.bin`, the run or gap and both lines shown.
+Ends at the first difference: status 1, the input in a file `difference-FACE.bin`, the run, gap, call or line and both
+lines shown.
 """
 
 import argparse
@@ -17,31 +21,35 @@ import itertools
 import sys
 import time
 
+from books import names_little_by_little, repository_books, systematic_names
 from coverage import Coverage
 from generate import random_inputs
 from programs import FACES, PROVED, SECOND, difference, run_little_by_little, run_program
 from systematic import little_by_little, systematic_inputs
 
-# Random conversations in the fixed set: some before the systematic inputs, for most faults show at once, and the rest
-# behind them. An input has about 270 runs or 190 gaps.
-EARLY_INPUTS = {"print": 12, "drive": 12}
+# Random inputs in the fixed set: some before the systematic inputs, for most faults show at once, and the rest behind
+# them. An input has about 270 runs or 190 gaps.
+EARLY_INPUTS = {"print": 12, "drive": 12, "lookup": 24, "book": 110}
 LATER_INPUTS = {"print": 780, "drive": 290}
 
 
-def conversations(seed, counts):
-    for face in FACES:
-        for name, octets in itertools.islice(random_inputs(seed, face), counts[face]):
+def drawn(seed, counts):
+    for face, count in counts.items():
+        for name, octets in itertools.islice(random_inputs(seed, face), count):
             yield face, name, octets, run_program
 
 
 def fixed_set():
-    """(face, name, octets, way to run) of every input of the fixed set, in its order."""
-    yield from conversations("early", EARLY_INPUTS)
-    for face, name, octets in systematic_inputs():
+    """(face, name, octets, way to run) of every input of the fixed set, in its order. The repository's own books are
+    the last, so that no count of docs/SLIPS.md moves with them."""
+    yield from drawn("early", EARLY_INPUTS)
+    for face, name, octets in itertools.chain(systematic_names(), systematic_inputs()):
         yield face, name, octets, run_program
-    for face, name, octets in little_by_little():
+    for face, name, octets in itertools.chain(names_little_by_little(), little_by_little()):
         yield face, name, octets, run_little_by_little
-    yield from conversations("fixed", LATER_INPUTS)
+    yield from drawn("fixed", LATER_INPUTS)
+    for face, name, octets in repository_books():
+        yield face, name, octets, run_program
 
 
 class Comparison:
@@ -55,19 +63,19 @@ class Comparison:
     def compare(self, face, name, octets, run=run_program):
         """True if the programs agree on this input."""
         first, second = run(self.first, face, octets), run(self.second, face, octets)
-        found = difference(face, first, second)
+        found = difference(first, second)
         if found:
             report(face, name, octets, found)
         else:
             # Only now: a program that is wrong may write lines that cannot be taken apart.
-            self.coverage.note_output(face, first.output)
+            self.coverage.note(octets, first)
         return found is None
 
-    def compare_conversations(self, seed, face, lines):
-        """Random inputs until so many runs or gaps have been compared."""
-        goal = self.coverage.lines[face] + lines
+    def compare_drawn(self, seed, face, count):
+        """Random inputs until so many runs, gaps, calls or conversions have been compared."""
+        goal = self.coverage.compared[face] + count
         for name, octets in random_inputs(seed, face):
-            if self.coverage.lines[face] >= goal:
+            if self.coverage.compared[face] >= goal:
                 return True
             if not self.compare(face, name, octets):
                 return False
@@ -88,8 +96,8 @@ def arguments():
     parser.add_argument("first", nargs="?", default=PROVED)
     parser.add_argument("second", nargs="?", default=SECOND)
     parser.add_argument("--seed", default="1")
-    parser.add_argument("--print", type=int, default=0, metavar="N")
-    parser.add_argument("--drive", type=int, default=0, metavar="N")
+    for face in FACES:
+        parser.add_argument(f"--{face}", type=int, default=0, metavar="N")
     parser.add_argument("--fixed", action="store_true")
     return parser.parse_args()
 
@@ -99,8 +107,8 @@ def main():
     comparison = Comparison(wanted.first, wanted.second)
     begun = time.time()
     agree = not wanted.fixed or comparison.compare_fixed()
-    for face, lines in (("print", wanted.print), ("drive", wanted.drive)):
-        agree = agree and comparison.compare_conversations(wanted.seed, face, lines)
+    for face in FACES:
+        agree = agree and comparison.compare_drawn(wanted.seed, face, getattr(wanted, face))
     print(comparison.coverage.table())
     print(f"\n{time.time() - begun:.0f} s; " + ("no difference" if agree else "they differ"))
     return 0 if agree else 1

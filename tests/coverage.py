@@ -2,6 +2,8 @@
 
 from collections import Counter
 
+from programs import COUNTED
+
 FIXED_REPLIES = {0x00: "ACK", 0x01: "NACK", 0x09: "nothing (09)", 0x0B: "status (0B)"}
 REPLY_TYPES = (1, 8, 11, 71, 72, 131)
 READING_TYPES, OBJECTS, OBJECT_OCTETS = (8, 11), range(1, 7), 6
@@ -10,6 +12,9 @@ REQUEST_TYPES = (100, 102, 103, 122, 123, 181, 183, 185, 186, 187)
 CAUSES = ("7", "7 P/N", "10", "13", "14", "15", "16", "17", "18")
 FAULTS = ("version", "image", "cut", "call")
 DATA, P_N, CAUSE_BITS = 5, 0x40, 0x3F
+# Of books and look-ups, as they are printed.
+SOUND, BOOK_REFUSALS = "0", ("1", "2", "3", "4")
+NEITHER, CHOSEN, ITALIAN = "0", "1", "2"
 
 
 def reply_of_line(face, fields):
@@ -34,12 +39,10 @@ def hours_of_labels(reply):
     return reply[-6:-5] if reply[7] in READING_TYPES else b""
 
 
-class Coverage:
-    """Counters of both faces together, and of each for result numbers and faults."""
+class CardCoverage:
+    """Counters of `print` and `drive` together, and of each for result numbers and faults."""
 
     def __init__(self):
-        self.lines = Counter()      # by face: runs or gaps
-        self.inputs = Counter()     # by face
         self.numbers = Counter()    # by face and number, or face and fault word
         self.orders = Counter()
         self.replies = Counter()    # fixed replies by name, data replies by type
@@ -49,22 +52,17 @@ class Coverage:
         self.mirrors = Counter()    # by request type and cause
         self.most_octets = 0
 
-    def note_output(self, face, output):
-        self.inputs[face] += 1
-        for line in output.decode("ascii", "replace").splitlines():
-            fields = line.split()
-            if len(fields) < 4:
-                self.numbers[face, line] += 1
-            else:
-                self.note_line(face, fields)
-
     def note_line(self, face, fields):
-        self.lines[face] += 1
+        """True for a run or a gap, false for a fault word."""
+        if len(fields) < 4:
+            self.numbers[face, fields[0]] += 1
+            return False
         self.numbers[face, number_of_line(face, fields)] += 1
         self.orders[order_of_line(face, fields)] += 1
         reply = reply_of_line(face, fields)
         if reply:
             self.note_reply(reply)
+        return True
 
     def note_reply(self, reply):
         self.most_octets = max(self.most_octets, len(reply))
@@ -84,9 +82,7 @@ class Coverage:
             self.mirrors[reply[7] if reply[7] in REQUEST_TYPES else "other", cause] += 1
 
     def table(self):
-        rows = [f"inputs: {self.inputs['print']} print, {self.inputs['drive']} drive;"
-                f" compared: {self.lines['print']} runs, {self.lines['drive']} gaps;"
-                f" longest reply {self.most_octets} octets", "", "| result | print | drive |", "|---|---|---|"]
+        rows = [f"longest reply {self.most_octets} octets", "", "| result | print | drive |", "|---|---|---|"]
         for number in [*map(str, range(10)), *FAULTS]:
             rows.append(f"| {number} | {self.numbers['print', number]} | {self.numbers['drive', number]} |")
         rows += ["", "| reply | times |", "|---|---|"]
@@ -106,3 +102,78 @@ class Coverage:
         for kind in (*REQUEST_TYPES, "other"):
             rows.append(f"| {kind} | " + " | ".join(str(self.mirrors[kind, cause] or "") for cause in CAUSES) + " |")
         return "\n".join(rows)
+
+
+class NamesCoverage:
+    """Counters of `lookup` and `book`."""
+
+    def __init__(self):
+        self.checks = Counter()       # by number
+        self.refusals = Counter()     # of look-ups, by number and book
+        self.found = Counter()        # of look-ups that are not refused, by book
+        self.faults = Counter()       # by word
+        self.conversions = Counter()  # by what was given, and accepted or refused
+
+    def note_line(self, fields):
+        """True for a check or a look-up, false for a fault word."""
+        if len(fields) == 1:
+            self.faults[fields[0]] += 1
+            return False
+        number, book = fields[:2]
+        if len(fields) == 2:
+            self.checks[number] += 1
+        elif number == SOUND:
+            self.found[book] += 1
+        else:
+            self.refusals[number, book] += 1
+        return True
+
+    def note_conversion(self, octets, outcome):
+        given = "book" if octets[:1] == b"\x01" else "text"
+        self.conversions[given, "refused" if outcome.complaint else "accepted"] += 1
+
+    def table(self):
+        rows = ["| book | checked | chosen, in a look-up | Italian, in a look-up |", "|---|---|---|---|",
+                f"| sound | {self.checks[SOUND]} | | |"]
+        for number in BOOK_REFUSALS:
+            rows.append(f"| refusal {number} | {self.checks[number]} | {self.refusals[number, CHOSEN]} |"
+                        f" {self.refusals[number, ITALIAN]} |")
+        rows += ["", "| look-up | times |", "|---|---|"]
+        for what, book in (("name from the chosen book", CHOSEN), ("name from the Italian book", ITALIAN),
+                           ("no name", NEITHER)):
+            rows.append(f"| {what} | {self.found[book]} |")
+        for fault in ("cut", "call"):
+            rows.append(f"| {fault} | {self.faults[fault]} |")
+        rows += ["", "| conversion of a | accepted | refused |", "|---|---|---|"]
+        for given in ("text", "book"):
+            rows.append(f"| {given} | {self.conversions[given, 'accepted']} | {self.conversions[given, 'refused']} |")
+        return "\n".join(rows)
+
+
+class Coverage:
+    """What occurred over all faces."""
+
+    def __init__(self):
+        self.inputs = Counter()    # by face
+        self.compared = Counter()  # by face: runs, gaps, calls, conversions
+        self.card = CardCoverage()
+        self.names = NamesCoverage()
+
+    def note(self, octets, outcome):
+        face = outcome.face
+        self.inputs[face] += 1
+        if face == "book":
+            self.names.note_conversion(octets, outcome)
+            self.compared[face] += 1
+            return
+        for line in outcome.output.decode("ascii", "replace").splitlines():
+            fields = line.split()
+            whole = self.names.note_line(fields) if face == "lookup" else self.card.note_line(face, fields)
+            self.compared[face] += whole
+
+    def compared_so_far(self):
+        return ", ".join(f"{self.compared[face]} {counted}" for face, counted in COUNTED.items())
+
+    def table(self):
+        inputs = ", ".join(f"{self.inputs[face]} {face}" for face in COUNTED)
+        return f"inputs: {inputs}; compared: {self.compared_so_far()}; {self.card.table()}\n\n{self.names.table()}"

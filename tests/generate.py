@@ -1,5 +1,6 @@
 #!/usr/bin/env python3
-"""generate.py SEED COUNT FACE: prints COUNT inputs of the face (print or drive) drawn from SEED, one a line in hex.
+"""generate.py SEED COUNT FACE: prints COUNT inputs of the face (print, drive, lookup, book) drawn from SEED, one a line
+in hex.
 
     tests/generate.py 7 3 drive | sed -n 2p | xxd -r -p | proved/drive
 
@@ -9,8 +10,10 @@ The same seed gives the same inputs. `random_inputs` is what compare.py uses.
 import random
 import sys
 
+from books import random_book, random_lookup
 from lines import DriveLine, PrintLine
 from meter import UNSOUND, random_meter, random_octets
+from programs import FACES
 from talk import Centre, random_clock
 
 RUNS_IN_AN_INPUT = {"print": (100, 400), "drive": (60, 250)}
@@ -57,6 +60,10 @@ def faulty_drive_input(chance):
 
 
 def random_input(chance, face):
+    if face == "lookup":
+        return random_lookup(chance)
+    if face == "book":
+        return random_book(chance)
     if chance.random() < 0.05:
         return faulty_print_input(chance) if face == "print" else faulty_drive_input(chance)
     return conversation(chance, face)
@@ -78,6 +85,6 @@ def main(seed, count, face):
 
 
 if __name__ == "__main__":
-    if len(sys.argv) != 4 or sys.argv[3] not in RUNS_IN_AN_INPUT:
+    if len(sys.argv) != 4 or sys.argv[3] not in FACES:
         sys.exit(__doc__)
     main(*sys.argv[1:])

@@ -22,8 +22,9 @@ from sources import functions
 
 CRATES, CONTRACTS, READING = ROOT / "crates", ROOT / "docs" / "CONTRACTS.md", ROOT / "docs" / "READING.md"
 README, STORED = ROOT / "README.md", CRATES / "explain"
-EXAMPLES = ("explain.txt", "active-energy.txt", "autumn-hour.txt")
-WORKED_OUT = ("fields/specs/working/Key", "image/specs/working/Keys", "choice/specs/working/Keys", "faults/specs/working/Walking")
+EXAMPLES = ("explain.txt", "active-energy.txt", "autumn-hour.txt", "event-names.txt")
+WORKED_OUT = ("fields/specs/working/Key", "image/specs/working/Keys", "choice/specs/working/Keys", "faults/specs/working/Walking",
+              "names/specs/working/Pass")
 PROGRAMS = ("input", "stream", "printing", "turns", "driving", "explain")
 BESIDES = "## What is said besides"
 
@@ -199,14 +200,16 @@ def reading(text, every, errors):
 
 
 def see_examples(errors):
-    """README shows explain's examples and what is written for them: the program's stored input and output begin with these, each up to an empty line."""
+    """README shows explain's examples and what is written for them. Each stands in the program's stored input between two empty lines, and what is
+    written for it in the stored output, behind as many empty lines."""
     readme = README.read_text(encoding="utf8")
-    given, written = ((STORED / name).read_text(encoding="utf8").split("\n\n", len(EXAMPLES)) for name in ("stdin", "stdout"))
-    for at, name in enumerate(EXAMPLES):
+    given, written = ((STORED / name).read_text(encoding="utf8").split("\n\n") for name in ("stdin", "stdout"))
+    for name in EXAMPLES:
         example = (ROOT / "examples" / name).read_text(encoding="utf8")
-        if given[at] + "\n" != example:
-            errors.append(f"crates/explain/stdin does not begin with the examples: examples/{name} and an empty line are expected")
-        for text in (example, written[at]):
+        if example.removesuffix("\n") not in given:
+            errors.append(f"crates/explain/stdin does not have examples/{name} between two empty lines")
+            continue
+        for text in (example, written[given.index(example.removesuffix("\n"))]):
             if "".join(f"    {line}\n" for line in text.splitlines()) not in readme:
                 errors.append(f"README.md does not show examples/{name} with what is written for it")
 

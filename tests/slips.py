@@ -17,12 +17,12 @@ import time
 from pathlib import Path
 
 from compare import fixed_set
-from programs import ROOT, difference
+from programs import COUNTED, FACES, ROOT, difference
 
 SOURCE = ROOT / "second"
 ENTRIES = ROOT / "tests" / "slips" / "entries.txt"
 TABLE = ROOT / "docs" / "SLIPS.md"
-INPUTS = ("compare", "generate", "lines", "meter", "systematic", "talk", "wire")
+INPUTS = ("books", "compare", "generate", "lines", "meter", "systematic", "talk", "wire")
 
 
 def rests_on():
@@ -69,15 +69,28 @@ def read_slips():
     return slips
 
 
-def build(target, slip=None):
-    """A copy of the sources, with the slip, built; returns the folder of its programs."""
-    shutil.copytree(SOURCE, target, ignore=shutil.ignore_patterns("build", "build-san", "check"))
-    if slip:
-        slip.apply(target)
-    made = subprocess.run(["make", "-s"], cwd=target, capture_output=True, text=True)
+def make(source, what):
+    made = subprocess.run(["make", "-s"], cwd=source, capture_output=True, text=True)
     if made.returncode != 0:
-        sys.exit(f"{slip.name if slip else 'the right program'} does not build:\n{made.stderr}")
-    return os.path.join(target, "build")
+        sys.exit(f"{what} does not build:\n{made.stderr}")
+    return os.path.join(source, "build")
+
+
+def build_right(target):
+    """A copy of the sources, built; returns the folder of its programs."""
+    shutil.copytree(SOURCE, target, ignore=shutil.ignore_patterns("build", "build-san", "check"))
+    return make(target, "the right program")
+
+
+def build_slip(right, target, slip):
+    """A copy of the right sources and programs with the slip, in which `make` has only those to build that have it."""
+    shutil.copytree(os.path.dirname(right), target)
+    slip.apply(target)
+    return make(target, slip.name)
+
+
+def program_octets(folder, face):
+    return Path(folder, face).read_bytes()
 
 
 class RightAnswers:
@@ -103,24 +116,26 @@ class RightAnswers:
 
 
 class Finding:
-    """What became of a slip: by which input it was noticed, after how many runs and gaps."""
+    """What became of a slip: by which input it was noticed, after how many runs, gaps, calls and conversions."""
 
     def __init__(self, slip):
         self.slip = slip
-        self.compared = {"print": 0, "drive": 0}
+        self.compared = dict.fromkeys(FACES, 0)
         self.noticed_by = None
 
     def try_inputs(self, folder, answers):
+        changed = {face for face in FACES if program_octets(folder, face) != program_octets(answers.folder, face)}
         for face, name, octets, run, right in answers:
-            found = difference(face, right, run(folder, face, octets))
+            # A program that is the right one, octet for octet, need not be run.
+            found = difference(right, run(folder, face, octets)) if face in changed else None
             if found:
-                self.compared[face] += found.at + 1
+                self.compared[face] += found.count()
                 self.noticed_by = f"{face}, {name}"
                 return
-            self.compared[face] += right.output.count(b"\n")
+            self.compared[face] += right.count()
 
     def row(self):
-        after = f"{self.compared['print']} runs, {self.compared['drive']} gaps"
+        after = ", ".join(f"{self.compared[face]} {counted}" for face, counted in COUNTED.items())
         if self.noticed_by is None:
             return f"| {self.slip.name} | {self.slip.section} | **not noticed** after {after} | |"
         return f"| {self.slip.name} | {self.slip.section} | {after} | {self.noticed_by} |"
@@ -129,7 +144,7 @@ class Finding:
 def try_slip(slip, answers):
     finding = Finding(slip)
     with tempfile.TemporaryDirectory() as folder:
-        finding.try_inputs(build(os.path.join(folder, "slip"), slip), answers)
+        finding.try_inputs(build_slip(answers.folder, os.path.join(folder, "slip"), slip), answers)
     return finding
 
 
@@ -154,9 +169,11 @@ def write_table(slips, findings):
     text = [
         "# Slips", "",
         "How much the comparison notices. Written by `tests/slips.py`: each slip is put into the second program alone, and",
-        "the fixed set is given to both until an output differs. Runs and gaps are those compared until then, in the order",
-        "of the fixed set: first a dozen conversations over each face, then the systematic inputs, then the other",
-        "conversations. A line `version`, `image`, `cut` or `call` counts as one, too.", "",
+        "the fixed set is given to both until an output differs. Runs (of `print`), gaps (of `drive`), calls (of `lookup`) and",
+        "conversions (of `book`) are those compared until then, in the order of the fixed set: first a dozen conversations",
+        "with the card over each of its faces and random inputs of `lookup` and `book`, then the systematic inputs, then the",
+        "other conversations. A line `version`, `image`, `cut` or `call` counts as one, too. A program that a slip leaves",
+        "as it was, octet for octet, is not run again.", "",
         "`./test` sees that nothing that the rows rest on has changed since they were written; the sum below is over it.", "",
         f"{len(rows)} slips, {len(rows) - missed} noticed.", "",
         rests_on() if whole else known_sum(), "",
@@ -168,7 +185,7 @@ def main(wanted):
     slips = read_slips()
     findings, begun = [], time.time()
     with tempfile.TemporaryDirectory() as folder:
-        answers = RightAnswers(build(os.path.join(folder, "right")))
+        answers = RightAnswers(build_right(os.path.join(folder, "right")))
         for slip in slips:
             if not wanted or slip.name in wanted or slip.section in wanted:
                 findings.append(try_slip(slip, answers))

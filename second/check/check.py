@@ -1,7 +1,6 @@
-"""Tests written by hand from documents 01 and 02. Usage: check.py FOLDER-OF-THE-PROGRAMS"""
+"""Tests of the card, written by hand from documents 01 and 02. Usage: check.py FOLDER-OF-THE-PROGRAMS"""
 
 import random
-import sys
 
 from harness import *
 
@@ -1263,12 +1262,7 @@ def at_random():
         run("print", b"\1" + source.randbytes(200))
 
 
-for part in (paper_cases, labels, printing, driving, little_by_little, refusals, count_bit,
-             messages_accepted, messages_refused, passwords, clock_and_dates, totals,
-             object_ranges, ranges_exchanged, diaries, standard_time_in_images,
-             standard_time_in_ranges, exchanged, images, at_random):
-    before = Tally.checks
-    part()
-    print(f"{part.__name__}: {Tally.checks - before} checks")
-print(f"{Tally.checks} checks, {Tally.faults} faults")
-sys.exit(Tally.faults != 0)
+run_parts(paper_cases, labels, printing, driving, little_by_little, refusals, count_bit,
+          messages_accepted, messages_refused, passwords, clock_and_dates, totals,
+          object_ranges, ranges_exchanged, diaries, standard_time_in_images,
+          standard_time_in_ranges, exchanged, images, at_random)

@@ -1,7 +1,9 @@
-"""Helpers for check.py: build octets, run the two faces, compare every line.
+"""Helpers for check.py and names.py: build octets, run the programs, compare every
+line.
 
-Nothing here knows a rule of the card except the shape of frames and messages;
-what the card should answer is written out by hand in check.py.
+Nothing here knows a rule of the card except the shape of frames and messages,
+nor one of books except the shape of an entry; what should be answered is written
+out by hand in check.py and names.py.
 """
 
 import os
@@ -25,6 +27,16 @@ class Tally:
         if got != wanted:
             cls.faults += 1
             print(f"FAULT {what}\n  wanted {wanted!r}\n  got    {got!r}")
+
+
+def run_parts(*parts):
+    """Runs the parts of a file of tests and ends with what they found."""
+    for part in parts:
+        before = Tally.checks
+        part()
+        print(f"{part.__name__}: {Tally.checks - before} checks")
+    print(f"{Tally.checks} checks, {Tally.faults} faults")
+    sys.exit(Tally.faults != 0)
 
 
 def hx(text):
@@ -126,15 +138,42 @@ def image(*records, version=1):
 SMALL = hx("01 0009 01 0001 00 00 00000000 0007 02 0001 12345678")
 
 
+# ---- books of names ---------------------------------------------------------
+
+def entry(spa, spq, name, length=None):
+    return bytes([spa, spq, len(name) if length is None else length]) + name
+
+
+def book(*entries, version=1):
+    return bytes([version]) + b"".join(entries)
+
+
 # ---- running the faces ------------------------------------------------------
 
-def run(program, octets):
+def outcome(program, octets):
+    """Exit status, standard output and standard error."""
     done = subprocess.run([f"{FOLDER}/{program}"], input=octets,
                           stdout=subprocess.PIPE, stderr=subprocess.PIPE,
                           env=ENVIRONMENT)
-    Tally.equal(f"{program}: status and standard error",
-                (done.returncode, done.stderr.decode(errors="replace")), (0, ""))
-    return done.stdout.decode("ascii")
+    return done.returncode, done.stdout, done.stderr.decode(errors="replace")
+
+
+def run(program, octets):
+    status, output, errors = outcome(program, octets)
+    Tally.equal(f"{program}: status and standard error", (status, errors), (0, ""))
+    return output.decode("ascii")
+
+
+def check_calls(program, what, calls, lines, end=""):
+    """Gives all calls at once. `lines` holds what each line is for and the line
+    itself; `end` is what has to stand behind them."""
+    got = run(program, calls)
+    got_lines = got.splitlines()
+    for i, (one, line) in enumerate(lines):
+        there = got_lines[i] if i < len(got_lines) else "(no line)"
+        Tally.equal(f"{what}, line {i + 1} {one}", there, line)
+    wanted = "".join(line + "\n" for _, line in lines) + end
+    Tally.equal(f"{what}: all output", got, wanted)
 
 
 def prints(what, octets, wanted):
@@ -262,10 +301,33 @@ class Drive:
         return self.ask(request, with_cause(request, 7))
 
     def check(self, end=""):
-        got = run("drive", self.calls)
-        wanted = "".join(line + "\n" for _, line in self.lines) + end
-        got_lines = got.splitlines()
-        for i, (what, line) in enumerate(self.lines):
-            one = got_lines[i] if i < len(got_lines) else "(no line)"
-            Tally.equal(f"{self.what}, gap {i + 1} {what}", one, line)
-        Tally.equal(f"{self.what}: all output", got, wanted)
+        check_calls("drive", self.what, self.calls, self.lines, end)
+
+
+class Lookup:
+    """Writes calls of the look-up face down beside the lines they should give."""
+
+    def __init__(self, what):
+        self.what = what
+        self.calls = b""
+        self.lines = []
+
+    def call(self, octets, line, what):
+        self.calls += octets
+        self.lines.append((what or octets[:40].hex(" "), line))
+        return self
+
+    def chosen(self, octets, line="0 0", what=""):
+        return self.call(b"C" + be(len(octets), 3) + octets, line, what)
+
+    def italian(self, octets, line="0 0", what=""):
+        return self.call(b"I" + be(len(octets), 3) + octets, line, what)
+
+    def look(self, spa, spq, line, what=""):
+        return self.call(bytes([ord("L"), spa, spq]), line, what)
+
+    def event(self, spa, octet, line, what=""):
+        return self.call(bytes([ord("E"), spa, octet]), line, what)
+
+    def check(self, end=""):
+        check_calls("lookup", self.what, self.calls, self.lines, end)

@@ -1,4 +1,6 @@
 // The bench: a card, what is lent to it, and what each request does to them.
+ghost use Prim.Native.Nat.{_<_};
+use crate::books;
 use crate::cards;
 use crate::cards::Met;
 use crate::frames;
@@ -42,19 +44,22 @@ pub(crate) fn start() -> Bench {
 
 // ---- what is lent ----
 
-fn lend(lent: Lent, request: Request, given: &[u8], image: &mut [u8]) -> Lent {
+fn lend(lent: Lent, request: Request, given: &[u8], shelf: &mut [u8]) -> Lent {
     let word = request.word;
     let argument = request.argument;
     match word {
-        Word::Image => lend_image(lent, given, image),
+        Word::Image => lend_image(lent, given, shelf),
         Word::Clock => lend_clock(lent, given),
+        Word::Book => lend_book(lent, 0, given, shelf),
+        Word::Italian => lend_book(lent, 1, given, shelf),
         _ => lend_buffer(lent, argument.number),
     }
 }
 
-fn lend_image(lent: Lent, given: &[u8], image: &mut [u8]) -> Lent {
+// The image stands at the front of the shelf.
+fn lend_image(lent: Lent, given: &[u8], shelf: &mut [u8]) -> Lent {
     let clock = lent.clock;
-    octets::put(image, 0, given);
+    octets::put(shelf, 0, given);
     images::explain(given);
     Lent {
         image: given.len(),
@@ -80,6 +85,13 @@ fn lend_buffer(lent: Lent, many: usize) -> Lent {
         clock,
         buffer: many,
     }
+}
+
+fn lend_book(lent: Lent, which: u8, given: &[u8], shelf: &mut [u8]) -> Lent
+    requires { ⌜ which < 2 ⌝ }
+{
+    books::lend(shelf, which, given);
+    lent
 }
 
 // ---- what the card is given ----
@@ -129,20 +141,20 @@ fn gap(card: Card, lent: Lent, image: &[u8], buffer: &mut [u8]) -> Gone {
     card.gap(image, clock, buffer)
 }
 
-fn answered(gone: Gone, met: Met, buffer: &[u8]) -> Card {
+fn answered(gone: Gone, met: Met, buffer: &[u8], shelf: &[u8]) -> Card {
     let order = gone.order;
     let time = gone.time;
     let sent = octets::part(buffer, 0, gone.length as usize);
-    cards::gap(gone.number, order, time, met, sent);
+    cards::gap(gone.number, order, time, met, sent, shelf);
     gone.card
 }
 
 // Octets and a gap. A buffer over 261 octets serves like one that has 261.
-fn run(card: Card, lent: Lent, given: &[u8], met: Met, image: &[u8]) -> Card {
+fn run(card: Card, lent: Lent, given: &[u8], met: Met, image: &[u8], shelf: &[u8]) -> Card {
     let mut buffer = [0u8; 261];
     let fed = card.octets(given);
     let gone = gap(fed, lent, image, &mut buffer);
-    answered(gone, met, &buffer)
+    answered(gone, met, &buffer, shelf)
 }
 
 // The rule that applies to a message, where nothing stands before its frame.
@@ -158,31 +170,38 @@ fn met(card: Card, lent: Lent, image: &[u8], message: &[u8]) -> Met {
 }
 
 // A message, in a frame of user data with the FCB that is new.
-fn ask(card: Card, lent: Lent, message: &[u8], image: &[u8]) -> Card {
+fn ask(card: Card, lent: Lent, message: &[u8], image: &[u8], shelf: &[u8]) -> Card {
     let mut space = [0u8; 261];
     let link = card.link;
     let size = cards::user_data(&mut space, link.fcb, image, message);
     let met = met(card, lent, image, message);
-    run(card, lent, octets::part(&space, 0, size), met, image)
+    run(card, lent, octets::part(&space, 0, size), met, image, shelf)
 }
 
-fn collect(card: Card, lent: Lent, image: &[u8]) -> Card {
+fn collect(card: Card, lent: Lent, image: &[u8], shelf: &[u8]) -> Card {
     let link = card.link;
     let frame = cards::collection(link.fcb, image);
-    run(card, lent, &frame, Met::Unknown, image)
+    run(card, lent, &frame, Met::Unknown, image, shelf)
 }
 
-fn give(card: Card, lent: Lent, request: Request, given: &[u8], image: &[u8]) -> Card {
+fn give(
+    card: Card,
+    lent: Lent,
+    request: Request,
+    given: &[u8],
+    image: &[u8],
+    shelf: &[u8],
+) -> Card {
     let word = request.word;
     let argument = request.argument;
     match word {
         Word::PowerOn => showing(Card::power_on()),
         Word::Session => showing(in_session(card, session_of(argument), image)),
         Word::Octets => collecting(card, given),
-        Word::Gap => run(card, lent, given, Met::Unknown, image),
-        Word::Run => run(card, lent, given, Met::Unknown, image),
-        Word::Ask => ask(card, lent, given, image),
-        Word::Collect => collect(card, lent, image),
+        Word::Gap => run(card, lent, given, Met::Unknown, image, shelf),
+        Word::Run => run(card, lent, given, Met::Unknown, image, shelf),
+        Word::Ask => ask(card, lent, given, image, shelf),
+        Word::Collect => collect(card, lent, image, shelf),
         _ => showing(card),
     }
 }
@@ -190,12 +209,13 @@ fn give(card: Card, lent: Lent, request: Request, given: &[u8], image: &[u8]) ->
 // ---- requests ----
 
 // What changes nothing.
-fn tell(word: Word, given: &[u8]) {
+fn tell(word: Word, given: &[u8], shelf: &[u8]) {
     match word {
         Word::Label => labels::explain(given),
         Word::Compare => labels::compare(given),
-        Word::Frame => frames::explain(2, given, true),
-        _ => messages::explain(2, given),
+        Word::Frame => frames::explain(2, given, true, shelf),
+        Word::Message => messages::explain(2, given, shelf),
+        _ => messages::name(given, shelf),
     }
 }
 
@@ -212,28 +232,31 @@ fn subject(word: Word) -> About {
         Word::Compare => About::Octets,
         Word::Frame => About::Octets,
         Word::Message => About::Octets,
+        Word::Event => About::Octets,
         Word::Image => About::Lent,
         Word::Clock => About::Lent,
         Word::Buffer => About::Lent,
+        Word::Book => About::Lent,
+        Word::Italian => About::Lent,
         _ => About::Card,
     }
 }
 
-fn told(bench: Bench, word: Word, given: &[u8]) -> Bench {
-    tell(word, given);
+fn told(bench: Bench, word: Word, given: &[u8], shelf: &[u8]) -> Bench {
+    tell(word, given, shelf);
     bench
 }
 
-fn lending(bench: Bench, request: Request, given: &[u8], image: &mut [u8]) -> Bench {
+fn lending(bench: Bench, request: Request, given: &[u8], shelf: &mut [u8]) -> Bench {
     let card = bench.card;
     let lent = bench.lent;
     Bench {
         card,
-        lent: lend(lent, request, given, image),
+        lent: lend(lent, request, given, shelf),
     }
 }
 
-fn giving(bench: Bench, request: Request, given: &[u8], image: &[u8]) -> Bench {
+fn giving(bench: Bench, request: Request, given: &[u8], shelf: &[u8]) -> Bench {
     let card = bench.card;
     let lent = bench.lent;
     Bench {
@@ -242,18 +265,19 @@ fn giving(bench: Bench, request: Request, given: &[u8], image: &[u8]) -> Bench {
             lent,
             request,
             given,
-            octets::part(image, 0, lent.image),
+            octets::part(shelf, 0, lent.image),
+            shelf,
         ),
         lent,
     }
 }
 
 // A request is carried out.
-pub(crate) fn obey(bench: Bench, request: Request, given: &[u8], image: &mut [u8]) -> Bench {
+pub(crate) fn obey(bench: Bench, request: Request, given: &[u8], shelf: &mut [u8]) -> Bench {
     let word = request.word;
     match subject(word) {
-        About::Octets => told(bench, word, given),
-        About::Lent => lending(bench, request, given, image),
-        About::Card => giving(bench, request, given, image),
+        About::Octets => told(bench, word, given, shelf),
+        About::Lent => lending(bench, request, given, shelf),
+        About::Card => giving(bench, request, given, shelf),
     }
 }

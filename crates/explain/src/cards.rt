@@ -120,16 +120,16 @@ fn order(order: Order, time: [u8; 10]) {
 }
 
 // The octets of a reply, and what they say.
-fn reply(sent: &[u8]) {
+fn reply(sent: &[u8], shelf: &[u8]) {
     voice::line(2);
     words::reply();
     voice::pairs(sent);
     voice::line(2);
-    frames::explain(4, sent, false);
+    frames::explain(4, sent, false, shelf);
 }
 
 // What a gap answered: its number; where a frame is answered, the order, the rule where the reply is an ACK, the reply.
-pub(crate) fn gap(number: u8, ordered: Order, time: [u8; 10], met: Met, sent: &[u8]) {
+pub(crate) fn gap(number: u8, ordered: Order, time: [u8; 10], met: Met, sent: &[u8], shelf: &[u8]) {
     frames::number(number);
     if sent.len() == 0 {
         return;
@@ -138,7 +138,7 @@ pub(crate) fn gap(number: u8, ordered: Order, time: [u8; 10], met: Met, sent: &[
     if octets::octet_at(sent, 1) == Control::ACK {
         rule(met);
     }
-    reply(sent);
+    reply(sent, shelf);
 }
 
 fn session(session: Session) {

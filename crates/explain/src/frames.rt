@@ -74,7 +74,7 @@ fn control(form: Form, control: u8, to: LinkAddress, named: bool) {
 }
 
 // What stands in a frame's user octets: a message, or too few octets for one.
-fn user(indent: usize, user: &[u8])
+fn user(indent: usize, user: &[u8], shelf: &[u8])
     requires { ⌜ indent < 8 ⌝ }
 {
     words::user_octets(user.len() as u64);
@@ -82,18 +82,18 @@ fn user(indent: usize, user: &[u8])
         return messages::unread(indent, user);
     }
     voice::line(indent);
-    messages::explain(indent + 2, user)
+    messages::explain(indent + 2, user, shelf)
 }
 
-fn variable(indent: usize, octet: u8, to: LinkAddress, carried: &[u8], named: bool)
+fn variable(indent: usize, octet: u8, to: LinkAddress, carried: &[u8], named: bool, shelf: &[u8])
     requires { ⌜ indent < 8 ⌝ }
 {
     control(Form::Variable, octet, to, named);
-    user(indent, carried);
+    user(indent, carried, shelf);
 }
 
 // A run; what it carries is indented so far, and a reply is said to be one where it is to be `named`.
-pub(crate) fn explain(indent: usize, run: &[u8], named: bool)
+pub(crate) fn explain(indent: usize, run: &[u8], named: bool, shelf: &[u8])
     requires { ⌜ indent < 8 ⌝ }
 {
     match frame::judge(run) {
@@ -106,6 +106,6 @@ pub(crate) fn explain(indent: usize, run: &[u8], named: bool)
             control: octet,
             link,
             users,
-        } => variable(indent, octet, link, frame::user(run, users), named),
+        } => variable(indent, octet, link, frame::user(run, users), named, shelf),
     }
 }

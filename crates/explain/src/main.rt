@@ -1,7 +1,9 @@
-// Explains what the card makes of octets, line by line: labels, frames, messages, images, and a card that is given runs. Text in, text out.
+// Explains what the card makes of octets, line by line: labels, frames, messages, images, books of event names, and a card that is given runs. Text in,
+// text out.
 ghost use Prim.Native.Nat.{_<_};
 
 mod bench;
+mod books;
 mod cards;
 mod frames;
 mod images;
@@ -89,14 +91,14 @@ fn request_after(
 // All words that begin a request.
 fn all_words() {
     let mut n = 0;
-    while n < 15 {
+    while n < 18 {
         words::request(n);
         n += 1;
     }
 }
 
 fn expected(place: u8)
-    requires { ⌜ place < 13 ⌝ }
+    requires { ⌜ place < 14 ⌝ }
 {
     words::expected(place);
     if place == 0 {
@@ -113,7 +115,7 @@ fn complain(request: Request) {
     } else {
         words::column(request.line, argument.column as u64);
     }
-    if place < 13 {
+    if place < 14 {
         expected(place);
     }
     voice::line(0);
@@ -124,19 +126,19 @@ fn pass_on(line: &[u8]) {
     voice::line(0);
 }
 
-fn carry_out(bench: Bench, request: Request, given: &[u8], image: &mut [u8]) -> Bench {
+fn carry_out(bench: Bench, request: Request, given: &[u8], shelf: &mut [u8]) -> Bench {
     let argument = request.argument;
     let next = bench::obey(
         bench,
         request,
         octets::part(given, 0, argument.count),
-        image,
+        shelf,
     );
     voice::line(0);
     next
 }
 
-fn done(bench: Bench, request: Request, line: &[u8], given: &[u8], image: &mut [u8]) -> Bench {
+fn done(bench: Bench, request: Request, line: &[u8], given: &[u8], shelf: &mut [u8]) -> Bench {
     let step = request.step;
     match step {
         Step::PassOn => {
@@ -147,7 +149,7 @@ fn done(bench: Bench, request: Request, line: &[u8], given: &[u8], image: &mut [
             complain(request);
             bench
         }
-        Step::Carry => carry_out(bench, request, given, image),
+        Step::Carry => carry_out(bench, request, given, shelf),
         _ => bench,
     }
 }
@@ -187,31 +189,31 @@ fn explaining(
     number: u64,
     space: &mut [u8],
     given: &mut [u8],
-    image: &mut [u8],
+    shelf: &mut [u8],
 ) -> Desk {
     let window = desk.window;
     let request = request_after(desk.request, number, space, window, given);
     let line = first_line(stream::seen(space, window));
     Desk {
-        bench: done(desk.bench, request, line, given, image),
+        bench: done(desk.bench, request, line, given, shelf),
         request,
         window: behind_line(space, window),
         going: requests::is_going(request),
     }
 }
 
-fn turn(desk: Desk, number: u64, space: &mut [u8], given: &mut [u8], image: &mut [u8]) -> Desk {
+fn turn(desk: Desk, number: u64, space: &mut [u8], given: &mut [u8], shelf: &mut [u8]) -> Desk {
     let next = reading(desk, space);
-    explaining(next, number, space, given, image)
+    explaining(next, number, space, given, shelf)
 }
 
 // Lines until the input ends. A loop must end, so its budget is the line's number: no input uses it up.
-fn explain_lines(space: &mut [u8], given: &mut [u8], image: &mut [u8]) {
+fn explain_lines(space: &mut [u8], given: &mut [u8], shelf: &mut [u8]) {
     let mut desk = start();
     let mut number = 0;
     while number < u64::MAX {
         number += 1;
-        let next = turn(desk, number, space, given, image);
+        let next = turn(desk, number, space, given, shelf);
         if next.going {
             desk = next;
         } else {
@@ -220,10 +222,11 @@ fn explain_lines(space: &mut [u8], given: &mut [u8], image: &mut [u8]) {
     }
 }
 
-// The longest line with its newline, the octets of the longest request, an image.
+// The longest line with its newline, the octets of the longest request, an image and two books.
 fn main() {
     let mut space = [0u8; 262145];
     let mut given = [0u8; 65600];
-    let mut image = [0u8; 65600];
-    explain_lines(&mut space, &mut given, &mut image);
+    let mut shelf = [0u8; 196809];
+    books::clear(&mut shelf);
+    explain_lines(&mut space, &mut given, &mut shelf);
 }

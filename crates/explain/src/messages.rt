@@ -1,5 +1,6 @@
 // Messages: the header, then what stands behind it, by its type. Where the octets are not as many as type and N ask for, they are shown as they are.
 ghost use Prim.Native.Nat.{_<_};
+use crate::books;
 use crate::labels;
 use crate::voice;
 use crate::words;
@@ -9,6 +10,7 @@ use label::LabelB;
 use message::Header;
 use message::ObjectRange;
 use message::Request;
+use names::Code;
 
 // The octets of an object (number, value, quality) and of an event (SPA, SPQ and SPI, label b).
 const OBJECT: usize = 6;
@@ -179,15 +181,32 @@ fn object(m: &[u8]) {
     quality(octets::octet_at(m, 5));
 }
 
-// SPQ is the upper seven bits of an octet, SPI its lowest.
-fn event(m: &[u8]) {
-    let qualifier = octets::octet_at(m, 1);
-    words::event(octets::octet_at(m, 0), qualifier / 2, qualifier % 2);
+// The two octets of an event say its code and SPI, which is the lowest bit.
+fn code(m: &[u8], labelled: u8) -> Code
+    requires { ⌜ labelled < 2 ⌝ }
+{
+    let octet = octets::octet_at(m, 1);
+    let code = Code::of_event(octets::octet_at(m, 0), octet);
+    words::event(labelled, code.spa, code.spq, octet % 2);
+    code
+}
+
+// An event with its label, and its name where a book has been given.
+fn event(m: &[u8], shelf: &[u8]) {
+    let code = code(m, 1);
     labels::label(LabelB::read(octets::part(m, 2, 7)), true);
+    if books::are_given(shelf) {
+        books::name(shelf, code);
+    }
+}
+
+// An event's two octets by themselves, and its name.
+pub(crate) fn name(given: &[u8], shelf: &[u8]) {
+    books::name(shelf, code(given, 0));
 }
 
 // Objects or events behind the header, by their size.
-fn items(indent: usize, m: &[u8], many: u8, size: usize) {
+fn items(indent: usize, m: &[u8], many: u8, size: usize, shelf: &[u8]) {
     let mut at = 6;
     let mut left = many;
     while 0 < left {
@@ -195,7 +214,7 @@ fn items(indent: usize, m: &[u8], many: u8, size: usize) {
         if size == OBJECT {
             object(octets::part(m, at, size));
         } else {
-            event(octets::part(m, at, size));
+            event(octets::part(m, at, size), shelf);
         }
         at = std::num::wrapping_add_usize(at, size);
         left -= 1;
@@ -203,7 +222,7 @@ fn items(indent: usize, m: &[u8], many: u8, size: usize) {
 }
 
 fn reading(indent: usize, m: &[u8], many: u8) {
-    items(indent, m, many, OBJECT);
+    items(indent, m, many, OBJECT, b"");
     dated(
         indent,
         5,
@@ -227,14 +246,14 @@ fn size(type_id: u8, many: u8) -> usize {
 }
 
 // What stands behind the header, where the octets are as many as there have to be.
-fn body(indent: usize, m: &[u8], request: Request) {
+fn body(indent: usize, m: &[u8], request: Request, shelf: &[u8]) {
     let head = request.header;
     let first = request.first;
     let last = request.last;
     let label = request.time;
     let type_id = head.type_id;
     match type_id {
-        1 => items(indent, m, head.structure, EVENT),
+        1 => items(indent, m, head.structure, EVENT, shelf),
         8 | 11 => reading(indent, m, head.structure),
         71 => identity(indent, m),
         72 | 181 => time(indent, label),
@@ -263,13 +282,13 @@ pub(crate) fn unread(indent: usize, some: &[u8]) {
 }
 
 // A message of six octets or more. What stands behind the header is on lines of its own.
-pub(crate) fn explain(indent: usize, m: &[u8]) {
+pub(crate) fn explain(indent: usize, m: &[u8], shelf: &[u8]) {
     let request = Request::read(m);
     let head = request.header;
     let size = size(head.type_id, head.structure);
     header(head);
     if m.len() == size {
-        return body(indent, m, request);
+        return body(indent, m, request, shelf);
     }
     if size == 0 {
         return unread(indent, octets::part(m, 6, m.len()));

@@ -20,6 +20,9 @@ pub enum Word {
     Ask,
     Collect,
     State,
+    Book,
+    Italian,
+    Event,
     Unknown,
 }
 
@@ -36,6 +39,7 @@ pub enum Matter {
     ClockSize,
     MessageSize,
     AskSize,
+    EventSize,
     TooLong,
     Unended,
     Fine,
@@ -89,13 +93,16 @@ fn word_at(n: u8) -> Word {
         12 => Word::Ask,
         13 => Word::Collect,
         14 => Word::State,
+        15 => Word::Book,
+        16 => Word::Italian,
+        17 => Word::Event,
         _ => Word::Unknown,
     }
 }
 
 fn word_of(text: &[u8]) -> Word {
     let mut n = 0;
-    while n < 15 {
+    while n < 18 {
         if words::is_request(text, n) {
             return word_at(n);
         }
@@ -285,6 +292,7 @@ fn size_matter(word: Word, count: usize) -> Matter {
         Word::Clock => unless(count == 7, Matter::ClockSize),
         Word::Message => unless(is_from_to(count, 6, 252), Matter::MessageSize),
         Word::Ask => unless(is_from_to(count, 1, 252), Matter::AskSize),
+        Word::Event => unless(count == 2, Matter::EventSize),
         Word::Buffer => unless(count == 1, Matter::Number),
         _ => Matter::Fine,
     }
@@ -412,9 +420,9 @@ pub(crate) fn with_end(request: Request) -> Request {
     passing(request, Step::End)
 }
 
-// The place of what is expected among the words; 13 where nothing else is.
+// The place of what is expected among the words; 14 where nothing else is.
 pub(crate) fn place(matter: Matter) -> u8
-    ensures { λ r. ⌜ r < 14 ⌝ }
+    ensures { λ r. ⌜ r < 15 ⌝ }
 {
     match matter {
         Matter::Word => 0,
@@ -428,9 +436,10 @@ pub(crate) fn place(matter: Matter) -> u8
         Matter::ClockSize => 8,
         Matter::MessageSize => 9,
         Matter::AskSize => 10,
-        Matter::TooLong => 11,
-        Matter::Unended => 12,
-        Matter::Fine => 13,
+        Matter::EventSize => 11,
+        Matter::TooLong => 12,
+        Matter::Unended => 13,
+        Matter::Fine => 14,
     }
 }
 

@@ -114,7 +114,7 @@ fn value_at(values: [u64; 6], at: usize) -> u64 {
 }
 
 // A phrase with its numbers and its word.
-fn sentence(phrase: &[u8], values: [u64; 6], word: &[u8]) {
+pub(crate) fn sentence(phrase: &[u8], values: [u64; 6], word: &[u8]) {
     let mut used = 0;
     let mut from = 0;
     let mut i = 0;

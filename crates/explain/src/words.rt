@@ -2,26 +2,27 @@
 // words, each ending with a semicolon. Another language is another file like this one.
 ghost use Prim.Native.Nat.{_<_};
 use crate::lines;
-use crate::voice;
 use crate::voice::naming;
+use crate::voice::nth;
 use crate::voice::phrase;
 use crate::voice::phrase_of;
+use crate::voice::sentence;
 use crate::voice::word;
 
 // ---- requests, and what is the matter with them ----
 
-const REQUESTS: [u8; 97] =
-    *b"label;compare;frame;message;image;clock;buffer;power-on;session;octets;gap;run;ask;collect;state;";
+const REQUESTS: [u8; 116] =
+    *b"label;compare;frame;message;image;clock;buffer;power-on;session;octets;gap;run;ask;collect;state;book;italian;event;";
 
 // Whether a text is the request's word, in large letters or small.
 pub(crate) fn is_request(text: &[u8], n: u8) -> bool
-    requires { ⌜ n < 15 ⌝ }
+    requires { ⌜ n < 18 ⌝ }
 {
-    lines::is(text, voice::nth(&REQUESTS, n))
+    lines::is(text, nth(&REQUESTS, n))
 }
 
 pub(crate) fn request(n: u8)
-    requires { ⌜ n < 15 ⌝ }
+    requires { ⌜ n < 18 ⌝ }
 {
     naming(b" *", [0; 6], &REQUESTS, n)
 }
@@ -36,10 +37,10 @@ pub(crate) fn column(line: u64, column: u64) {
 }
 
 pub(crate) fn expected(what: u8)
-    requires { ⌜ what < 13 ⌝ }
+    requires { ⌜ what < 14 ⌝ }
 {
     word(
-        b"one of these words is expected:;a pair of hex figures is expected;the second figure of a pair is expected;65600 octets at most are expected;a number from 0 to 65535 is expected;nothing is expected behind this word;5 or 7 octets are expected;10 or 14 octets are expected;7 octets are expected;6 to 252 octets are expected;1 to 252 octets are expected;a line of 262144 octets at most is expected;the request is expected to go on;",
+        b"one of these words is expected:;a pair of hex figures is expected;the second figure of a pair is expected;65600 octets at most are expected;a number from 0 to 65535 is expected;nothing is expected behind this word;5 or 7 octets are expected;10 or 14 octets are expected;7 octets are expected;6 to 252 octets are expected;1 to 252 octets are expected;2 octets are expected;a line of 262144 octets at most is expected;the request is expected to go on;",
         what,
     )
 }
@@ -280,9 +281,13 @@ pub(crate) fn quality_bit(bit: u8)
     word(b" IV; CA; CY; VH; MP; INT; AL; bit 0;", bit)
 }
 
-pub(crate) fn event(spa: u8, spq: u8, spi: u8) {
-    phrase(
-        b"SPA %, SPQ %, SPI %, ",
+// 0 by itself, 1 before its label.
+pub(crate) fn event(labelled: u8, spa: u8, spq: u8, spi: u8)
+    requires { ⌜ labelled < 2 ⌝ }
+{
+    phrase_of(
+        b"SPA %, SPQ %, SPI %;SPA %, SPQ %, SPI %, ;",
+        labelled,
         [spa as u64, spq as u64, spi as u64, 0, 0, 0],
     )
 }
@@ -351,6 +356,66 @@ pub(crate) fn missing(what: u8)
     word(
         b"no switch dates;no readings;no events;no readings, no events;",
         what,
+    )
+}
+
+// ---- books of names: 0 the chosen one, 1 the Italian one ----
+
+pub(crate) fn book(which: u8, many: u64)
+    requires { ⌜ which < 2 ⌝ }
+{
+    phrase_of(
+        b"chosen book of % octets, ;Italian book of % octets, ;",
+        which,
+        [many, 0, 0, 0, 0, 0],
+    )
+}
+
+pub(crate) fn sound_book() {
+    phrase(b"sound", [0; 6])
+}
+
+// 0 as a whole, 1 at an entry.
+pub(crate) fn refused(how: u8, number: u8, entry: u64)
+    requires { ⌜ how < 2 ⌝ }
+{
+    phrase_of(
+        b"refused by %;refused by % at entry %;",
+        how,
+        [number as u64, entry, 0, 0, 0, 0],
+    )
+}
+
+pub(crate) fn refusal(why: u8)
+    requires { ⌜ why < 4 ⌝ }
+{
+    word(
+        b": empty or not version 1;: cut;: name empty or too long;: not behind the entry before it by SPA and SPQ;",
+        why,
+    )
+}
+
+// The name that a book has in an entry.
+pub(crate) fn named(which: u8, entry: u64, name: &[u8])
+    requires { ⌜ which < 2 ⌝ }
+{
+    sentence(
+        nth(
+            b": * (chosen book, entry %);: * (Italian book, entry %);",
+            which,
+        ),
+        [entry, 0, 0, 0, 0, 0],
+        name,
+    )
+}
+
+// 2 where neither has a name; else the book that is refused.
+pub(crate) fn unnamed(which: u8)
+    requires { ⌜ which < 3 ⌝ }
+{
+    word(
+        b": the chosen book is ;: the Italian book is ;: no name;",
+        which,
     )
 }
 

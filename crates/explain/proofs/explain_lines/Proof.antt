@@ -8,10 +8,10 @@ use Rattle.explain.proofs.explain_lines.Statement.{statement}
 use Rattle.explain.proofs.explain_lines.Tie as tie
 
 abbrev Inv-loop : tie.InvT-loop
-Inv-loop space₀ given₀ image₀ desk₀ number₀ space given image desk number = (length space ≡ length space₀) × (length given ≡ length given₀) × (length image ≡ length image₀)
+Inv-loop space₀ given₀ shelf₀ desk₀ number₀ space given shelf desk number = (length space ≡ length space₀) × (length given ≡ length given₀) × (length shelf ≡ length shelf₀)
 
 abbrev μ-loop : tie.MeasureT-loop
-μ-loop space₀ given₀ image₀ desk₀ number₀ space given image desk number = 18446744073709551615 - number
+μ-loop space₀ given₀ shelf₀ desk₀ number₀ space given shelf desk number = 18446744073709551615 - number
 
 start-requires : tie.Need-start-requires Inv-loop μ-loop
 start-requires c κs = search needs

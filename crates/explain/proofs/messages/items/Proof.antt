@@ -8,10 +8,10 @@ use Rattle.explain.proofs.messages.items.Statement.{statement}
 use Rattle.explain.proofs.messages.items.Tie as tie
 
 abbrev Inv-loop : tie.InvT-loop
-Inv-loop indent m many size at₀ left₀ at left = Unit {0}
+Inv-loop indent m many size shelf at₀ left₀ at left = Unit {0}
 
 abbrev μ-loop : tie.MeasureT-loop
-μ-loop indent m many size at₀ left₀ at left = left
+μ-loop indent m many size shelf at₀ left₀ at left = left
 
 loop-holds : tie.Need-loop-holds Inv-loop μ-loop
 loop-holds c = search needs

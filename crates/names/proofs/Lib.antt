@@ -1,0 +1,14 @@
+mod Entries
+mod Turns
+mod Passes
+mod Places
+mod Shows
+mod Order
+mod Laid
+mod Books
+mod EventNames
+mod Answers
+mod Determined
+mod RuledOut
+mod Wrong
+mod Cases
