@@ -46,6 +46,9 @@ def expected(lines, book):
     """The checks of two sound books, and for each code its entry's number and name."""
     codes = [tuple(map(int, line.split(" ", 2)[:2])) for line in lines]
     names = [line.split(" ", 2)[2].rstrip("\n").encode("utf8").hex().upper() for line in lines]
+    missing = [f"{spa}/{spq}" for spa, spq in CODES if (spa, spq) not in codes]
+    if missing:
+        raise ValueError(f"no name for {', '.join(missing)}")
     return ["0 0", "0 0", *(f"0 {book} {codes.index(code) + 1} {names[codes.index(code)]}" for code in CODES)]
 
 
