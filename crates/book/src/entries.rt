@@ -3,7 +3,7 @@ use crate::lines;
 use crate::lines::Sought;
 use crate::utf8;
 
-// A code pair as one number, SPA before SPQ, and where its name begins in the line.
+// A code as one number, SPA before SPQ, and where its name begins in the line.
 pub struct Entry {
     pub code: usize,
     pub at: usize,

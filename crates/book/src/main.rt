@@ -16,7 +16,7 @@ fn turn_over(space: &mut [u8], places: &mut [usize], book: &mut [u8]) {
     }
 }
 
-// The longest text, with one octet more that tells a longer one; a place for each code pair; the longest book, which has a name of 40 octets
+// The longest text, with one octet more that tells a longer one; a place for each code; the longest book, which has a name of 40 octets
 // for each. A longer input that begins as a book is at fault before the space ends.
 fn main() {
     let mut space = [0u8; 4000001];

@@ -1,4 +1,4 @@
-// A book from text: every line is judged, the names are put in the order of their code pairs, and the book is checked before it is written.
+// A book from text: every line is judged, the names are put in the order of their codes, and the book is checked before it is written.
 use crate::entries;
 use crate::entries::Entry;
 use crate::entries::Line;
@@ -9,7 +9,7 @@ use std::num::wrapping_add_usize;
 
 // ---- where the names lie ----
 
-// Where a code pair's name begins in the text; 0 where no line has one. No name begins at 0: its code pair stands before it.
+// Where a code's name begins in the text; 0 where no line has one. No name begins at 0: its code stands before it.
 fn place_of(places: &[usize], code: usize) -> usize {
     if code < places.len() {
         return places[code];
@@ -23,7 +23,7 @@ fn set_place(places: &mut [usize], code: usize, place: usize) {
     }
 }
 
-// The entry of the line that begins at a place is kept, unless an earlier line has its code pair.
+// The entry of the line that begins at a place is kept, unless an earlier line has its code.
 fn keep(text: &[u8], from: usize, number: usize, entry: Entry, places: &mut [usize]) -> bool {
     let before = place_of(places, entry.code);
     if 0 < before {
@@ -79,7 +79,7 @@ fn keep_lines(text: &[u8], places: &mut [usize]) -> bool {
 
 // ---- the book ----
 
-// The entry of a code pair whose name begins at a place of the text, behind so many octets of the book; none where the place is 0. Answers how
+// The entry of a code whose name begins at a place of the text, behind so many octets of the book; none where the place is 0. Answers how
 // many octets the book then has.
 fn add(text: &[u8], place: usize, code: usize, book: &mut [u8], many: usize) -> usize {
     if place == 0 {
@@ -97,7 +97,7 @@ fn add(text: &[u8], place: usize, code: usize, book: &mut [u8], many: usize) -> 
     wrapping_add_usize(behind_head, name.len())
 }
 
-// The version, and an entry for each code pair that has a name. Answers how many octets the book has.
+// The version, and an entry for each code that has a name. Answers how many octets the book has.
 fn make(text: &[u8], places: &[usize], book: &mut [u8]) -> usize {
     octets::put(book, 0, &[1]);
     let mut many = 1;

@@ -32,7 +32,7 @@ pub(crate) fn line_fault(line: usize, fault: Fault) {
     }
 }
 
-// A line has a code pair that an earlier one has already.
+// A line has a code that an earlier one has already.
 pub(crate) fn again(line: usize, code: usize, earlier: usize) {
     say_number(b"line ", line, b": ");
     say_number(b"", code / 256, b"/");

@@ -192,18 +192,10 @@ fn saying(shelf: Shelf, line: Kept, more: bool, block: &mut [u8]) -> Shelf {
     next
 }
 
-fn with_chosen(shelf: Shelf, book: &[u8], chosen: &mut [u8]) -> Shelf {
-    let mut next = shelf;
-    octets::put(chosen, 0, book);
-    next.chosen = book.len();
-    next
-}
-
-fn with_italian(shelf: Shelf, book: &[u8], italian: &mut [u8]) -> Shelf {
-    let mut next = shelf;
-    octets::put(italian, 0, book);
-    next.italian = book.len();
-    next
+// A book is laid over what its space held. Answers how many octets it has.
+fn laid(space: &mut [u8], book: &[u8]) -> usize {
+    octets::put(space, 0, book);
+    book.len()
 }
 
 fn asked<'a>(
@@ -232,22 +224,19 @@ fn done<'a>(
     let spa = octets::octet_at(read, 1);
     let spq = octets::octet_at(read, 2);
     let book = octets::part(read, 4, read.len());
+    let mut next = shelf;
     match call_in(read) {
         Call::End => last(shelf, b"", block),
         Call::Cut => last(shelf, b"cut\n", block),
         Call::Wrong => last(shelf, b"call\n", block),
-        Call::Chosen => saying(
-            with_chosen(shelf, book, chosen),
-            check_line(book),
-            true,
-            block,
-        ),
-        Call::Italian => saying(
-            with_italian(shelf, book, italian),
-            check_line(book),
-            true,
-            block,
-        ),
+        Call::Chosen => {
+            next.chosen = laid(chosen, book);
+            saying(next, check_line(book), true, block)
+        }
+        Call::Italian => {
+            next.italian = laid(italian, book);
+            saying(next, check_line(book), true, block)
+        }
         Call::Pair => asked(shelf, Code { spa, spq }, chosen, italian, block),
         Call::Event => asked(shelf, Code::of_event(spa, spq), chosen, italian, block),
     }

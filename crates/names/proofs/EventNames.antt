@@ -33,7 +33,7 @@ use Rattle.names.proofs.Books.{sound-only, said-sound, its-entries}
 -- ---- the books are checked first ----
 
 module _ (wanted : Code) (chosen italian : List ℕ) where
-  chosen-refused : {number entry : ℕ} → checked chosen ≡ checks.Refused number entry → lookedUp wanted chosen italian ≡ showing (Refused 1 number entry) 0 0
+  pub chosen-refused : {number entry : ℕ} → checked chosen ≡ checks.Refused number entry → lookedUp wanted chosen italian ≡ showing (Refused 1 number entry) 0 0
   unfolding lookedUp unlessRefused
   chosen-refused q = rw q
 
@@ -330,7 +330,7 @@ pub name-shown : NameShown
 unfolding nameShown nameOfShown nameIn
 name-shown = record {
   in-its-book = λ wanted chosen italian.
-      by-shown (λ (l : LookedUp). InItsBook (l .shown) wanted (l .at) (l .many) (nameOfShown (l .shown) chosen italian) chosen italian) (λ book number entry n. refl) wanted chosen italian
-      refl (λ c h. (refl, name-stands wanted chosen c h)) (λ i h. (refl, name-stands wanted italian i h));
+      by-shown (λ (l : LookedUp). InItsBook (l .shown) wanted (l .at) (l .many) (nameOfShown (l .shown) chosen italian) chosen italian) (λ book number entry n. (refl, refl, refl)) wanted chosen italian
+      (refl, refl, refl) (λ c h. (refl, name-stands wanted chosen c h)) (λ i h. (refl, name-stands wanted italian i h));
   cut-out = cut-is-name;
 }

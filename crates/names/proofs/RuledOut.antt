@@ -20,7 +20,7 @@ use Rattle.names.specs.LookUp.{showing, findIn, find, unlessRefused, fro
 use Rattle.names.specs.EventNames.{SoundBook, Has}
 use Rattle.names.proofs.Order.{not-itself}
 use Rattle.names.proofs.Books.{sound-only, said-sound}
-use Rattle.names.proofs.EventNames.{checked-first, found-exactly}
+use Rattle.names.proofs.EventNames.{chosen-refused, checked-first, found-exactly}
 use Rattle.names.proofs.Code.of_event.Reads as of-event
 use Rattle.names.proofs.check.Reads as check
 use Rattle.names.proofs.look_up.Reads as look-up
@@ -125,6 +125,13 @@ module _ (κs : Lfts 2) (x y : Place) (chosen italian : List ℕ) (wanted : Code
   look-up-other number entry q number′ entry′ at many s p =
       let e : shows.Refused 2 number′ entry′ ≡ shows.Refused 1 number entry = ap shownIn p ∙ checked-first .chosen-first chosen italian number entry q wanted in
       let f : _≡_ {A = ℕ} 2 1 = cc in
+      omega arith
+
+  -- a place told where the chosen book is refused
+  look-up-placed : (number entry : ℕ) → checked chosen ≡ Refused number entry → (at many : ℕ)
+      → RuledOut (look-up.Post κs) (lent x chosen, (lent y italian, (wanted, tt))) (showing (shows.Refused 1 number entry) (at + 1) many)
+  look-up-placed number entry q at many s p =
+      let e : at + 1 ≡ 0 = ap (λ (l : LookedUp). l .at) (p ∙ chosen-refused wanted chosen italian q) in
       omega arith
 
 -- a book of one entry, whose name has two octets

@@ -149,12 +149,12 @@ pub record Stands (book : List ℕ) (k : ℕ) (wanted : Code) (at many : ℕ) (n
   pub at-so : at ≡ length (bookOf (take (k - 1) (entriesOf book))) + 3
   pub many-so : many ≡ length name
 
--- of the book that is shown, at the place that is told
+-- of the book that is shown, at the place that is told; where there is no name, no octets and no place
 abbrev pub InItsBook : Shown → Code → ℕ → ℕ → List ℕ → List ℕ → List ℕ → Type 0
 InItsBook (Chosen k) wanted at many name chosen italian = (name ≡ nameOf (getD (entriesOf chosen) (k - 1) [])) × Stands chosen k wanted at many name
 InItsBook (Italian k) wanted at many name chosen italian = (name ≡ nameOf (getD (entriesOf italian) (k - 1) [])) × Stands italian k wanted at many name
-InItsBook (Refused book number entry) wanted at many name chosen italian = name ≡ []
-InItsBook Nothing wanted at many name chosen italian = name ≡ []
+InItsBook (Refused book number entry) wanted at many name chosen italian = (name ≡ []) × (at ≡ 0) × (many ≡ 0)
+InItsBook Nothing wanted at many name chosen italian = (name ≡ []) × (at ≡ 0) × (many ≡ 0)
 
 pub record NameShown : Type 0 where
   pub in-its-book : (wanted : Code) (chosen italian : List ℕ) → let l = lookedUp wanted chosen italian in

@@ -1,4 +1,4 @@
--- `make` goes from code pair to code pair.
+-- `make` goes from code to code.
 -- Fewer are left each time; the book keeps its length. Assumes nothing.
 use Prim.Native.Nat.{_-_}
 use mathlib.Core.Path.{_≡_}
