@@ -1,4 +1,4 @@
-"""Builds the proved programs and the second program's for timing, and runs them. What bench/speed and bench/names share.
+"""Builds the proved programs and the second program's for timing, and runs them. What bench/speed, bench/names and bench/characters share.
 
 The kit compiles for x86-64 only. On an Arm host the LLVM module that it makes of a proved program is caught and compiled for Arm by
 the kit's own clang, so that the times are the machine's and not an emulator's.

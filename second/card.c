@@ -45,11 +45,31 @@ void card_octet(struct card *card, uint8_t octet)
         collector->overfull = true;
 }
 
+/* "data bits and parity bit together have an even number of ones" (#104) */
+static bool is_even(uint8_t octet, bool parity_bit)
+{
+    unsigned ones = parity_bit;
+
+    for (unsigned bits = octet; bits != 0; bits >>= 1)
+        ones += bits & 1;
+    return ones % 2 == 0;
+}
+
+/* A wrong parity bit marks the run; the octet joins it like any other, for it
+   counts towards the length. */
+void card_character(struct card *card, uint8_t octet, bool parity_bit)
+{
+    if (!is_even(octet, parity_bit))
+        card->collector.marked = true;
+    card_octet(card, octet);
+}
+
 /* "the collector becomes as fresh" */
 static void empty_collector(struct collector *collector)
 {
     collector->length = 0;
     collector->overfull = false;
+    collector->marked = false;
 }
 
 static unsigned function_of(const struct frame *frame)
@@ -84,7 +104,8 @@ static bool is_counted(const struct frame *frame)
            function_of(frame) == FUNCTION_CLASS_2;
 }
 
-/* Numbers 2 to 7 in their order, or 0; the frame is filled for 0 and 5 to 7. */
+/* Numbers 2, 10 and 3 to 7 in their order, or 0; the frame is filled for 0 and 5
+   to 7. */
 static enum gap_number judge_run(const struct card *card, struct frame *frame,
                                  struct link_address own)
 {
@@ -92,6 +113,8 @@ static enum gap_number judge_run(const struct card *card, struct frame *frame,
 
     if (run->overfull)
         return GAP_TOO_LONG;
+    if (run->marked)
+        return GAP_WRONG_PARITY;
     switch (frame_read(frame, run->octets, run->length)) {
     case FRAME_NO_FORM:
         return GAP_NO_FORM;
@@ -110,11 +133,11 @@ static enum gap_number judge_run(const struct card *card, struct frame *frame,
 }
 
 /* "The count of damaged runs grows by one for 2, 3 and 4 only, and stays at
-   65,535." */
+   65,535"; 10 has "all effects of 3" (#104). */
 static void count_damaged(struct card *card, enum gap_number number)
 {
-    bool damaged = number == GAP_TOO_LONG || number == GAP_NO_FORM ||
-                   number == GAP_WRONG_SUM;
+    bool damaged = number == GAP_TOO_LONG || number == GAP_WRONG_PARITY ||
+                   number == GAP_NO_FORM || number == GAP_WRONG_SUM;
 
     if (damaged && card->damaged < DAMAGED_MOST)
         card->damaged++;
@@ -221,7 +244,8 @@ static size_t answer(struct card *card, const struct frame *frame,
     }
 }
 
-/* "Order: 9, 8, 1, 2, 3, 4, 5, 6, 7." 9 and 8 leave the run where it is. */
+/* "Order: 9, 8, 1, 2, 3, 4, 5, 6, 7", with 10 "between 2 and 3" (#104). 9 and 8
+   leave the run and its mark where they are. */
 struct gap_result card_gap(struct card *card, const struct lent *lent)
 {
     struct gap_result result = {.number = GAP_ANSWERED, .order = ORDER_NONE};

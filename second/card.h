@@ -1,4 +1,5 @@
-/* The card (document 01, "The card's job" and "What a gap answers"). */
+/* The card (document 01, "The card's job" and "What a gap answers"; document 02,
+   #104). */
 #ifndef CARD_H
 #define CARD_H
 
@@ -16,6 +17,7 @@ struct collector {
     uint8_t octets[FRAME_OCTETS_MOST];
     size_t length;
     bool overfull; /* "262 or more mark it overfull" */
+    bool marked;   /* a parity bit was wrong, of a kept octet or of one too many */
 };
 
 /* "The card holds a collector of octets, the link, one session and the waiting
@@ -31,7 +33,7 @@ struct card {
     uint16_t damaged; /* "The count of damaged runs" */
 };
 
-/* The numbers of document 01's table "What a gap answers". */
+/* The numbers of document 01's table "What a gap answers", and 10 of #104. */
 enum gap_number {
     GAP_ANSWERED = 0,
     GAP_EMPTY = 1,
@@ -42,7 +44,8 @@ enum gap_number {
     GAP_NOT_OFFERED = 6,
     GAP_NOT_RESET = 7,
     GAP_IMAGE = 8,
-    GAP_BUFFER = 9
+    GAP_BUFFER = 9,
+    GAP_WRONG_PARITY = 10
 };
 
 enum { ORDER_OCTETS_MOST = 2 * LABEL_A_OCTETS };
@@ -69,7 +72,12 @@ struct lent {
    count 0." */
 void card_power_on(struct card *card);
 
+/* A character is an octet and, in the eleven-bit profile, its parity bit. Whoever
+   gives them keeps to one profile from power-on on; all else that the card does is
+   the same in both. The first call is for the ten-bit profile, and in the
+   eleven-bit one for an octet whose parity bit is right. */
 void card_octet(struct card *card, uint8_t octet);
+void card_character(struct card *card, uint8_t octet, bool parity_bit);
 
 struct gap_result card_gap(struct card *card, const struct lent *lent);
 

@@ -10,22 +10,25 @@
 enum {
     DRIVE_IMAGE_MOST = 65600, /* more than an image may have, to be refused */
     DRIVE_BUFFER = 300,
-    DRIVE_OCTETS_MOST = 65535
+    DRIVE_OCTETS_MOST = 65535,
+    CHARACTER_OCTETS = 2 /* of a character in `P`: octet, parity bit */
 };
 
 struct driving {
     struct card card;
+    bool eleven_bit; /* the card's profile, ten-bit if not */
     uint8_t image[DRIVE_IMAGE_MOST];
     size_t image_length;
     uint8_t clock[LABEL_B_OCTETS];
     uint8_t buffer[DRIVE_BUFFER]; /* kept between gaps */
     size_t buffer_lent;
-    uint8_t octets[DRIVE_OCTETS_MOST];
+    uint8_t given[CHARACTER_OCTETS * DRIVE_OCTETS_MOST]; /* of an `O` or a `P` */
 };
 
 static void driving_begin(struct driving *driving)
 {
     card_power_on(&driving->card);
+    driving->eleven_bit = false;
     driving->image_length = 0;
     memset(driving->clock, 0, sizeof driving->clock);
     memset(driving->buffer, 0xAA, sizeof driving->buffer);
@@ -57,15 +60,55 @@ static enum call_read call_buffer(FILE *in, struct driving *driving)
     return CALL_DONE;
 }
 
-/* "`O`, 2-octet length, octets: given to the card one by one" */
+/* "`E`: a card at power-on of the eleven-bit profile from here on"; what is lent
+   is not the card's and stays */
+static enum call_read call_eleven_bit(struct driving *driving)
+{
+    card_power_on(&driving->card);
+    driving->eleven_bit = true;
+    return CALL_DONE;
+}
+
+/* "`O`, 2-octet length, octets: given to the card one by one", in either profile:
+   with eleven bits each has its right parity bit */
 static enum call_read call_octets(FILE *in, struct driving *driving)
 {
     size_t length;
 
-    if (!read_number(in, 2, &length) || !read_octets(in, driving->octets, length))
+    if (!read_number(in, 2, &length) || !read_octets(in, driving->given, length))
         return CALL_CUT;
     for (size_t i = 0; i < length; i++)
-        card_octet(&driving->card, driving->octets[i]);
+        card_octet(&driving->card, driving->given[i]);
+    return CALL_DONE;
+}
+
+static bool are_parity_bits(const uint8_t *characters, size_t octets)
+{
+    for (size_t i = 1; i < octets; i += CHARACTER_OCTETS)
+        if (characters[i] > 1)
+            return false;
+    return true;
+}
+
+/* "`P`, 2-octet number of characters, then for each its octet and its parity bit
+   (00 or 01)". On a ten-bit card nothing behind the letter is read. A cut call is
+   `cut` whatever it holds; the parity bits are looked at when it is whole. */
+static enum call_read call_characters(FILE *in, struct driving *driving)
+{
+    const uint8_t *given = driving->given;
+    size_t characters, octets;
+
+    if (!driving->eleven_bit)
+        return CALL_WRONG;
+    if (!read_number(in, 2, &characters))
+        return CALL_CUT;
+    octets = CHARACTER_OCTETS * characters;
+    if (!read_octets(in, driving->given, octets))
+        return CALL_CUT;
+    if (!are_parity_bits(given, octets))
+        return CALL_WRONG;
+    for (size_t i = 0; i < octets; i += CHARACTER_OCTETS)
+        card_character(&driving->card, given[i], given[i + 1] == 1);
     return CALL_DONE;
 }
 
@@ -103,6 +146,10 @@ static enum call_read next_call(FILE *in, FILE *out, struct driving *driving)
         return call_buffer(in, driving);
     case 'O':
         return call_octets(in, driving);
+    case 'E':
+        return call_eleven_bit(driving);
+    case 'P':
+        return call_characters(in, driving);
     case 'G':
         return call_gap(out, driving);
     case EOF:

@@ -1,13 +1,18 @@
 #!/usr/bin/env python3
-"""compare.py [FIRST SECOND] [--seed S] [--print N] [--drive N] [--lookup N] [--book N] [--fixed]
+"""compare.py [FIRST SECOND] [--seed S] [--print N] [--drive N] [--eleven N] [--lookup N] [--book N] [--fixed]
+           [--only TEXT]
 
 Gives the same inputs to the programs `print`, `drive`, `lookup` and `book` of two folders and compares what they write,
 octet for octet; of `book` also what it writes on standard error, up to the first colon.
 Without folders: the proved programs and the second program, both built.
 
-    --fixed      the fixed set: every systematic input (systematic.py, books.py) and random ones of fixed seeds
+    --fixed      the fixed set: every systematic input (systematic.py, eleven.py, books.py) and random ones of fixed
+                 seeds
+    --only TEXT  of the fixed set the inputs that have this in their name: `eleven` for all that are meant for a card of
+                 the eleven-bit profile
     --print N    conversations from seed S until N runs have been printed by each program
     --drive N    the same until N gaps have been driven
+    --eleven N   the same with cards of the eleven-bit profile
     --lookup N   books and look-ups from seed S until N calls have been answered by each program
     --book N     N texts and books from seed S
     --seed S     the seed of these, 1 if not given
@@ -23,29 +28,31 @@ import time
 
 from books import names_little_by_little, repository_books, systematic_names
 from coverage import Coverage
-from generate import random_inputs
-from programs import FACES, PROVED, SECOND, difference, run_little_by_little, run_program
+from eleven import eleven_bit_inputs, eleven_bits_little_by_little
+from generate import KINDS, random_inputs
+from programs import PROVED, SECOND, difference, run_little_by_little, run_program
 from systematic import little_by_little, systematic_inputs
 
 # Random inputs in the fixed set: some before the systematic inputs, for most faults show at once, and the rest behind
 # them. An input has about 270 runs or 190 gaps.
-EARLY_INPUTS = {"print": 12, "drive": 12, "lookup": 24, "book": 110}
-LATER_INPUTS = {"print": 780, "drive": 290}
+EARLY_INPUTS = {"print": 12, "drive": 12, "lookup": 24, "book": 110, "eleven": 12}
+LATER_INPUTS = {"print": 780, "drive": 290, "eleven": 40}
 
 
 def drawn(seed, counts):
-    for face, count in counts.items():
-        for name, octets in itertools.islice(random_inputs(seed, face), count):
-            yield face, name, octets, run_program
+    for kind, count in counts.items():
+        for name, octets in itertools.islice(random_inputs(seed, kind), count):
+            yield KINDS[kind], name, octets, run_program
 
 
 def fixed_set():
     """(face, name, octets, way to run) of every input of the fixed set, in its order. The repository's own books are
     the last, so that no count of docs/SLIPS.md moves with them."""
     yield from drawn("early", EARLY_INPUTS)
-    for face, name, octets in itertools.chain(systematic_names(), systematic_inputs()):
+    for face, name, octets in itertools.chain(eleven_bit_inputs(), systematic_names(), systematic_inputs()):
         yield face, name, octets, run_program
-    for face, name, octets in itertools.chain(names_little_by_little(), little_by_little()):
+    for face, name, octets in itertools.chain(names_little_by_little(), little_by_little(),
+                                              eleven_bits_little_by_little()):
         yield face, name, octets, run_little_by_little
     yield from drawn("fixed", LATER_INPUTS)
     for face, name, octets in repository_books():
@@ -71,17 +78,18 @@ class Comparison:
             self.coverage.note(octets, first)
         return found is None
 
-    def compare_drawn(self, seed, face, count):
+    def compare_drawn(self, seed, kind, count):
         """Random inputs until so many runs, gaps, calls or conversions have been compared."""
+        face = KINDS[kind]
         goal = self.coverage.compared[face] + count
-        for name, octets in random_inputs(seed, face):
+        for name, octets in random_inputs(seed, kind):
             if self.coverage.compared[face] >= goal:
                 return True
             if not self.compare(face, name, octets):
                 return False
 
-    def compare_fixed(self):
-        return all(self.compare(*given) for given in fixed_set())
+    def compare_fixed(self, only):
+        return all(self.compare(*given) for given in fixed_set() if only in given[1])
 
 
 def report(face, name, octets, found):
@@ -96,9 +104,10 @@ def arguments():
     parser.add_argument("first", nargs="?", default=PROVED)
     parser.add_argument("second", nargs="?", default=SECOND)
     parser.add_argument("--seed", default="1")
-    for face in FACES:
-        parser.add_argument(f"--{face}", type=int, default=0, metavar="N")
+    for kind in KINDS:
+        parser.add_argument(f"--{kind}", type=int, default=0, metavar="N")
     parser.add_argument("--fixed", action="store_true")
+    parser.add_argument("--only", default="", metavar="TEXT")
     return parser.parse_args()
 
 
@@ -106,9 +115,9 @@ def main():
     wanted = arguments()
     comparison = Comparison(wanted.first, wanted.second)
     begun = time.time()
-    agree = not wanted.fixed or comparison.compare_fixed()
-    for face in FACES:
-        agree = agree and comparison.compare_drawn(wanted.seed, face, getattr(wanted, face))
+    agree = not wanted.fixed or comparison.compare_fixed(wanted.only)
+    for kind in KINDS:
+        agree = agree and comparison.compare_drawn(wanted.seed, kind, getattr(wanted, kind))
     print(comparison.coverage.table())
     print(f"\n{time.time() - begun:.0f} s; " + ("no difference" if agree else "they differ"))
     return 0 if agree else 1

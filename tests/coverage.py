@@ -10,6 +10,7 @@ READING_TYPES, OBJECTS, OBJECT_OCTETS = (8, 11), range(1, 7), 6
 EVENTS_TYPE, EVENT_OCTETS = 1, 9
 REQUEST_TYPES = (100, 102, 103, 122, 123, 181, 183, 185, 186, 187)
 CAUSES = ("7", "7 P/N", "10", "13", "14", "15", "16", "17", "18")
+NUMBERS = tuple(map(str, range(11)))
 FAULTS = ("version", "image", "cut", "call")
 DATA, P_N, CAUSE_BITS = 5, 0x40, 0x3F
 # Of books and look-ups, as they are printed.
@@ -83,7 +84,7 @@ class CardCoverage:
 
     def table(self):
         rows = [f"longest reply {self.most_octets} octets", "", "| result | print | drive |", "|---|---|---|"]
-        for number in [*map(str, range(10)), *FAULTS]:
+        for number in (*NUMBERS, *FAULTS):
             rows.append(f"| {number} | {self.numbers['print', number]} | {self.numbers['drive', number]} |")
         rows += ["", "| reply | times |", "|---|---|"]
         for reply in (*FIXED_REPLIES.values(), *REPLY_TYPES):

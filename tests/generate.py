@@ -1,34 +1,41 @@
 #!/usr/bin/env python3
-"""generate.py SEED COUNT FACE: prints COUNT inputs of the face (print, drive, lookup, book) drawn from SEED, one a line
-in hex.
+"""generate.py SEED COUNT KIND: prints COUNT inputs of the kind (print, drive, eleven, lookup, book) drawn from SEED,
+one a line in hex.
 
     tests/generate.py 7 3 drive | sed -n 2p | xxd -r -p | proved/drive
 
-The same seed gives the same inputs. `random_inputs` is what compare.py uses.
+A kind is a face, or `eleven`: conversations over the driving face with a card of the eleven-bit profile. The same seed
+gives the same inputs. `random_inputs` is what compare.py uses.
 """
 
 import random
 import sys
 
 from books import random_book, random_lookup
-from lines import DriveLine, PrintLine
+from lines import DriveLine, ElevenBitLine, PrintLine
 from meter import UNSOUND, random_meter, random_octets
 from programs import FACES
-from talk import Centre, random_clock
+from talk import Centre, ElevenBitCentre, random_clock
 
-RUNS_IN_AN_INPUT = {"print": (100, 400), "drive": (60, 250)}
+# Kinds of random inputs, each with the face that it is for.
+KINDS = {face: face for face in FACES} | {"eleven": "drive"}
+RUNS_IN_AN_INPUT = {"print": (100, 400), "drive": (60, 250), "eleven": (60, 250)}
+MISCHIEF, UNREST = (0.0, 0.05, 0.3), (0.02, 0.1, 0.3, 0.5)
 
 
-def conversation(chance, face, length=None):
+def conversation(chance, kind, length=None):
     """One input that holds a conversation from power-on, of about so many runs or gaps."""
     meter = random_meter(chance)
     clock = random_clock(chance)
-    if face == "print":
+    if kind == "print":
         line = PrintLine(chance, meter.octets, clock)
+    elif kind == "drive":
+        line = DriveLine(chance, meter.octets, clock, mischief=chance.choice(MISCHIEF))
     else:
-        line = DriveLine(chance, meter.octets, clock, mischief=chance.choice((0.0, 0.05, 0.3)))
-    centre = Centre(chance, meter, line, unrest=chance.choice((0.02, 0.1, 0.3, 0.5)))
-    centre.converse(length or chance.randint(*RUNS_IN_AN_INPUT[face]))
+        line = ElevenBitLine(chance, meter.octets, clock, mischief=chance.choice(MISCHIEF),
+                             through_octets=chance.choice((0.0, 0.3, 1.0)))
+    centre = (ElevenBitCentre if kind == "eleven" else Centre)(chance, meter, line, unrest=chance.choice(UNREST))
+    centre.converse(length or chance.randint(*RUNS_IN_AN_INPUT[kind]))
     return line.octets()
 
 
@@ -50,41 +57,41 @@ def faulty_print_input(chance):
     return whole[:chance.randint(0, len(whole))]
 
 
-def faulty_drive_input(chance):
+def faulty_drive_input(chance, kind):
     """An input that the driving program ends early on, with cut or call, or gives other meaning to."""
-    whole = conversation(chance, "drive")
+    whole = conversation(chance, kind)
     if chance.random() < 0.5:
         return whole[:chance.randint(0, len(whole))]
     at = chance.randrange(len(whole))
     return whole[:at] + random_octets(chance, 1) + whole[at + 1:]
 
 
-def random_input(chance, face):
-    if face == "lookup":
+def random_input(chance, kind):
+    if kind == "lookup":
         return random_lookup(chance)
-    if face == "book":
+    if kind == "book":
         return random_book(chance)
     if chance.random() < 0.05:
-        return faulty_print_input(chance) if face == "print" else faulty_drive_input(chance)
-    return conversation(chance, face)
+        return faulty_print_input(chance) if kind == "print" else faulty_drive_input(chance, kind)
+    return conversation(chance, kind)
 
 
-def random_inputs(seed, face):
+def random_inputs(seed, kind):
     """(name, octets) without end. Each input has a seed of its own, so that one can be made again alone."""
     number = 0
     while True:
-        name = f"{face} seed {seed} input {number}"
-        yield name, random_input(random.Random(name), face)
+        name = f"{kind} seed {seed} input {number}"
+        yield name, random_input(random.Random(name), kind)
         number += 1
 
 
-def main(seed, count, face):
-    inputs = random_inputs(seed, face)
+def main(seed, count, kind):
+    inputs = random_inputs(seed, kind)
     for _ in range(int(count)):
         print(next(inputs)[1].hex())
 
 
 if __name__ == "__main__":
-    if len(sys.argv) != 4 or sys.argv[3] not in FACES:
+    if len(sys.argv) != 4 or sys.argv[3] not in KINDS:
         sys.exit(__doc__)
     main(*sys.argv[1:])

@@ -1,7 +1,8 @@
-"""The two faces as lines that a conversation is held over: each builds the input of one program."""
+"""The card's two faces, and the driving one in the eleven-bit profile, as lines that a conversation is held over: each
+builds the input of one program."""
 
 from meter import UNSOUND
-from wire import LONGEST_RUN
+from wire import LONGEST_RUN, characters
 
 
 class PrintLine:
@@ -89,3 +90,30 @@ class DriveLine:
 
     def octets(self):
         return b"".join(self.parts)
+
+
+class ElevenBitLine(DriveLine):
+    """The same with a card of the eleven-bit profile. A run is octets, whose parity bits are right, or characters.
+    `through_octets` is how often the octets are given by `O`, which adds the parity bits, and not by `P`."""
+
+    def __init__(self, chance, image, clock, mischief=0.0, through_octets=0.0):
+        super().__init__(chance, image, clock, mischief)
+        self.through_octets = through_octets
+        self.power_on()
+
+    def power_on(self):
+        self.parts.append(b"E")
+
+    def put(self, run):
+        if not isinstance(run, bytes):
+            self.put_characters(run)
+        elif self.chance is not None and self.chance.random() < self.through_octets:
+            self.put_octets(run)
+        else:
+            self.put_characters(characters(run))
+
+    def put_octets(self, octets):
+        super().put(octets)
+
+    def put_characters(self, pairs):
+        self.parts += (b"P", len(pairs).to_bytes(2, "big"), *map(bytes, pairs))

@@ -22,7 +22,7 @@ from sources import functions
 
 CRATES, CONTRACTS, READING = ROOT / "crates", ROOT / "docs" / "CONTRACTS.md", ROOT / "docs" / "READING.md"
 README, STORED = ROOT / "README.md", CRATES / "explain"
-EXAMPLES = ("explain.txt", "active-energy.txt", "autumn-hour.txt", "event-names.txt")
+EXAMPLES = ("explain.txt", "active-energy.txt", "autumn-hour.txt", "event-names.txt", "eleven-bits.txt")
 WORKED_OUT = ("fields/specs/working/Key", "image/specs/working/Keys", "choice/specs/working/Keys", "faults/specs/working/Walking",
               "names/specs/working/Pass")
 PROGRAMS = ("input", "stream", "printing", "turns", "driving", "explain")

@@ -7,7 +7,7 @@ import random
 from dataclasses import replace
 
 from generate import conversation
-from lines import DriveLine, PrintLine
+from lines import DriveLine, ElevenBitLine, PrintLine
 from meter import (FACE_BORDERS, LAST_MILLISECOND, LAST_SUMMER_MILLISECOND, RICH, UNSOUND, Meter, day_of_change,
                    fullest_meter, meter_of_events, meter_of_moments, meter_of_objects, meter_of_readings, moments_apart,
                    moments_around, moments_of, overfull_meter, sound_images, without_point)
@@ -21,14 +21,16 @@ NOON = label_b(minute_of(2026, 11, 15, 12) * 60_000 + 1234)
 # The first and the last label of all in standard time.
 FIRST_LABEL, LAST_LABEL = label_a(FIRST_MINUTE, 0, 1), label_a(LAST_MINUTE)
 BARE = Meter()  # the image of the paper's example
+LINES = {"print": PrintLine, "drive": DriveLine, "eleven": ElevenBitLine}
 
 
 class Talk:
-    """A conversation by hand: the FCB is kept, nothing else."""
+    """A conversation by hand: the FCB is kept, nothing else. The face `eleven` is the driving one in the eleven-bit
+    profile."""
 
     def __init__(self, face, meter, clock=NOON):
         self.meter = meter
-        self.line = (PrintLine if face == "print" else DriveLine)(None, meter.octets, clock)
+        self.line = LINES[face](None, meter.octets, clock)
         self.fcb = FCB
 
     def reset(self):

@@ -7,11 +7,11 @@ is wrong the conversation goes on all the same, and the next reset puts it right
 
 from meter import (FIRST_MILLISECOND, LAST_MILLISECOND, exchanged, random_label_a, random_label_b, random_meter,
                    random_minute, random_octets)
-from wire import (ALL_OBJECTS, CLASS_2, CLOCK, CLOSE, DATES, EVENT_RECORDS, EVENTS, FCB, FIRST_MINUTE, IDENTITY,
-                  LABEL_A_SPOILS, LABEL_B_SPOILS, LAST_MINUTE, LONGEST_RUN, MOST_USER_OCTETS, OBJECT_RANGES,
-                  OFFERED_FIXED, OFFERED_VARIABLE, OPEN, PERIODS, RESET, ROWS, SET_CLOCK, SET_DATES, STATUS,
-                  SUMMER_HOUR, TOTALS, USER_DATA, Request, events_request, fixed, is_frame, open_request,
-                  readings_request, spoil_label_a, spoil_label_b, variable)
+from wire import (ALL_OBJECTS, BITS_OF_A_CHARACTER, CLASS_2, CLOCK, CLOSE, DATES, EVENT_RECORDS, EVENTS, FCB,
+                  FIRST_MINUTE, IDENTITY, LABEL_A_SPOILS, LABEL_B_SPOILS, LAST_MINUTE, LONGEST_RUN, MOST_USER_OCTETS,
+                  OBJECT_RANGES, OFFERED_FIXED, OFFERED_VARIABLE, OPEN, PERIODS, RESET, ROWS, SET_CLOCK, SET_DATES,
+                  STATUS, SUMMER_HOUR, TOTALS, USER_DATA, Request, all_wrong, altered, characters, events_request,
+                  fixed, is_frame, open_request, readings_request, spoil_label_a, spoil_label_b, variable)
 
 MOST_EVENTS_IN_A_MESSAGE = 27
 ALL_LABEL_B_SPOILS = (*LABEL_A_SPOILS, *LABEL_B_SPOILS)
@@ -418,3 +418,45 @@ class Centre:
             self.before_reset()
         while self.line.gaps < gaps:
             self.scene()
+
+
+def spoiled_characters(chance, run):
+    """Characters of a run of octets, some of them with a wrong parity bit, or with a few bits altered on the way."""
+    last = len(run) - 1
+    way = chance.choice(("first", "last", "some", "some", "all", "altered", "altered"))
+    if way == "all":
+        return all_wrong(run)
+    if way == "altered":
+        bits = range(BITS_OF_A_CHARACTER * len(run))
+        return altered(run, chance.sample(bits, min(chance.choice((1, 2, 3, 4)), len(bits))))
+    if way == "some":
+        return characters(run, {chance.randint(0, max(last, 0)) for _ in range(chance.choice((1, 1, 2, 3)))})
+    return characters(run, {0 if way == "first" else last})
+
+
+class ElevenBitCentre(Centre):
+    """A conversation with a card of the eleven-bit profile: parity bits go wrong on the way, and now and then a card at
+    power-on takes its place."""
+
+    def send_damaged(self, frame):
+        """Octets spoiled, their parity bits right; or parity bits wrong, of a sound frame or of a spoiled one."""
+        if self.often(0.3):
+            super().send_damaged(frame)
+        else:
+            run = frame if self.often(0.7) else damaged(self.chance, frame)
+            self.line.run(spoiled_characters(self.chance, run))
+
+    def power_on(self):
+        for _ in range(self.chance.choice((1, 1, 1, 2))):
+            self.line.power_on()
+        if self.often(0.7):
+            self.before_reset()
+        self.reset()
+
+    def scene(self):
+        """Some begin at power-on, a few of these with octets in the collector."""
+        if self.often(0.2):
+            if self.often(0.3):
+                self.line.put(self.last_frame[:self.chance.randint(0, len(self.last_frame))])
+            self.power_on()
+        super().scene()

@@ -1,4 +1,4 @@
-"""Octets as they stand on the line: labels, frames and requests.
+"""Octets as they stand on the line: labels, frames, characters with parity bits, and requests.
 
 This module builds octets. It judges none, with one exception: `is_frame`, by which a conversation knows whether a
 frame that it damaged became another sound one by chance.
@@ -158,6 +158,38 @@ def is_frame(run):
     else:
         return False
     return run[-2:] == bytes([sum(summed) & 0xFF, 0x16])
+
+
+# ---- characters of the eleven-bit profile: pairs of an octet and its parity bit ----
+
+BITS_OF_A_CHARACTER = 9  # of data and parity
+
+
+def parity_bit(octet):
+    """The right one: with it the number of ones is even."""
+    return bin(octet).count("1") % 2
+
+
+def characters(octets, wrong=()):
+    """Each octet with its parity bit, at the places in `wrong` with the other one."""
+    return tuple((octet, parity_bit(octet) ^ (place in wrong)) for place, octet in enumerate(octets))
+
+
+def all_wrong(octets):
+    return characters(octets, range(len(octets)))
+
+
+def altered(octets, bits):
+    """The characters with these bits altered on the way: 0 to 7 are the first one's data bits, 8 is its parity bit, 9
+    is the lowest of the second."""
+    pairs = [list(pair) for pair in characters(octets)]
+    for bit in bits:
+        place, of_character = divmod(bit, BITS_OF_A_CHARACTER)
+        if of_character < 8:
+            pairs[place][0] ^= 1 << of_character
+        else:
+            pairs[place][1] ^= 1
+    return tuple(map(tuple, pairs))
 
 
 class Request:

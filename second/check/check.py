@@ -290,6 +290,219 @@ def refusals():
     Tally.equal("the count grows by one", counts[:65535], [str(i) for i in range(1, 65536)])
 
 
+# ---- the eleven-bit profile -------------------------------------------------
+
+COLLECT_0, COLLECT_1 = fixed(0x5B), fixed(0x7B)
+
+
+def eleven_bit_calls():
+    """`E` and `P` as calls: what is lent stays, `call` and `cut` in their places."""
+    def says(what, calls, wanted):
+        Tally.equal(f"drive: {what}", run("drive", calls), wanted)
+
+    aa = "AA" * 300
+    lent = b"I" + be(21, 3) + SMALL
+    whole = b"P" + be(6, 2) + characters(RESET)
+    answered = f"0 6 - - 0 {ACK.hex().upper()}{'AA' * 294}\n"
+    says("E alone", b"E", "")
+    says("E lends nothing", b"EG", f"8 0 - - 0 {aa}\n")
+    says("P on a ten-bit card", lent + b"G" + whole + b"G", f"1 0 - - 0 {aa}\ncall\n")
+    says("P on a ten-bit card, the letter alone", b"P", "call\n")
+    says("P on an eleven-bit card", lent + b"E" + whole + b"G", answered)
+    says("E before the image", b"E" + lent + whole + b"G", answered)
+    says("P of no characters", lent + b"EP\0\0G", f"1 0 - - 0 {aa}\n")
+    for end in range(len(whole)):
+        says(f"P cut at {end}", lent + b"EG" + whole[:end],
+             f"1 0 - - 0 {aa}\n" + ("cut\n" if end else ""))
+    for bit in (2, 3, 0x10, 0x80, 0x81, 0xFE, 0xFF):
+        for place in range(6):
+            at = 3 + 2 * place + 1
+            wrong = whole[:at] + bytes([bit]) + whole[at + 1:]
+            says(f"parity bit {bit:02X}", lent + b"EG" + wrong + b"G", f"1 0 - - 0 {aa}\ncall\n")
+            for end in range(at + 1, len(wrong)):
+                says(f"parity bit {bit:02X}, cut", lent + b"E" + wrong[:end], "cut\n")
+    most = b"P\xFF\xFF" + characters(b"\x10" * 65535)
+    says("P of the most characters", lent + b"E" + most + b"G", f"2 0 - - 1 {aa}\n")
+    says("P of the most characters, cut", lent + b"E" + most[:-1], "cut\n")
+    slow = Slow("drive")
+    slow.feed(b"P")
+    Tally.equal("P on a ten-bit card: as soon as the letter is read", slow.ends(), ("call\n", 0))
+    slow = Slow("drive")
+    slow.feed(b"EP\0\2\0\2\0\0")
+    Tally.equal("a parity bit 02: as soon as the call is whole", slow.ends(), ("call\n", 0))
+
+
+def parity_bits():
+    """Every octet with both parity bits, alone and in a frame."""
+    even = {0x00, 0x03, 0x81, 0xFF, 0x7E, 0x0F, 0x55}
+    odd = {0x01, 0x80, 0x10, 0x7F, 0xFE, 0x68, 0x16}
+    Tally.equal("octets with an even number of ones", {parity(octet) for octet in even}, {0})
+    Tally.equal("octets with an odd number of ones", {parity(octet) for octet in odd}, {1})
+    d = Drive("every octet").eleven()
+    for octet in range(256):
+        d.characters(character(octet, parity(octet))).gap(3, what=f"{octet:02X}")
+        d.characters(character(octet, 1 - parity(octet))).gap(10, what=f"{octet:02X}, wrong")
+        d.run(bytes([octet]), 3, what=f"{octet:02X} through O")
+    d.check()
+    d = Drive("every octet in a frame").eleven().reset()
+    for octet in range(256):
+        user = message(200, 0, 5, 1, 0, bytes([octet]))
+        frame = variable(0x73, user)
+        d.marked(frame, 13, what=f"{octet:02X}")
+        d.characters(characters(frame)).gap(0, ACK, what=f"{octet:02X}")
+        d.fcb = 1
+        d.collect(with_cause(user, 0x0E), what=f"{octet:02X}")
+    d.check()
+
+
+def wrong_parity():
+    """Number 10: what comes before it, what comes behind it, and its effects."""
+    sound = variable(0x73, OPEN_1)
+    d = Drive("10 before 3 to 7 and an answered frame").eleven()
+    for octets, number in ((b"\x10", 3), (RESET[:5], 3), (hx("10 40 01 00 41 17"), 3),
+                           (b"\x68" * 261, 3), (hx("10 40 01 00 42 16"), 4),
+                           (fixed(0x40, 2), 5), (fixed(0x47), 6), (variable(0x40, b""), 6),
+                           (COLLECT_0, 7), (COLLECT_1, 7), (sound, 7)):
+        for wrong in ((0,), (len(octets) // 2,), (-1,), range(len(octets))):
+            d.marked(octets, *wrong)
+        d.characters(characters(octets)).gap(number)
+    for octets in (RESET, STATUS):
+        for place in range(6):
+            d.marked(octets, place)
+    d.run(COLLECT_1, 7, what="a marked reset is none")
+    d.run(STATUS, 0, fixed(0x0B)).reset().run(COLLECT_1, 0, NOTHING).check()
+
+    d = Drive("2 before 10").eleven()
+    for length in (262, 263, 300, 1000):
+        for wrong in ((0,), (130,), (260,), (261,), (-1,), range(length)):
+            d.marked(b"\x10" * length, *wrong, number=2)
+        d.marked(b"\x10" * length, number=2, what="no parity bit wrong")
+    for length in (1, 2, 259, 260, 261):
+        for wrong in ((0,), (length // 2,), (-1,), range(length)):
+            d.marked(b"\x10" * length, *wrong)
+        d.marked(b"\x10" * length, number=3, what="no parity bit wrong")
+    d.run(RESET, 0, ACK, what="no mark is left").check()
+
+    d = Drive("the longest frame").eleven().reset()
+    user = message(200, 3, 9, 7, 9, bytes(range(246)))
+    frame = variable(0x73, user)
+    for place in range(261):
+        d.marked(frame, place)
+    d.refuse(user, 0x0E).check()
+
+    d = Drive("9, 8 and 1 before 10, and the kept mark").eleven()
+    d.lend(260).characters(characters(RESET, [2])).gap(9).image(b"").gap(9)
+    d.lend(261).gap(8).gap(8).image(SMALL).gap(10).gap(1).gap(1)
+    d.lend(260).characters(characters(RESET[:3], [0])).gap(9).octets(RESET[3:])
+    d.gap(9).lend(300).gap(10).run(RESET, 0, ACK)
+    d.image(b"").characters(characters(RESET[:3])).gap(8)
+    d.characters(characters(RESET[3:], [2])).image(SMALL).gap(10).run(RESET, 0, ACK)
+    d.image(b"").characters(characters(RESET[:3], [1])).gap(8).octets(RESET[3:])
+    d.image(SMALL).gap(10).run(RESET, 0, ACK)
+    d.lend(260).characters(characters(b"\x10" * 261, [0])).gap(9).lend(261).gap(10)
+    d.lend(260).characters(characters(b"\x10" * 261, [0])).gap(9).octets(b"\x10").lend(261)
+    d.gap(2).gap(1).run(RESET, 0, ACK).check()
+
+    d = Drive("every number clears the mark that it answers").eleven()
+    d.marked(b"\x10" * 262, 0, number=2).run(b"\x10", 3)
+    d.marked(b"\x10", 0).run(b"\x10", 3).run(RESET, 0, ACK).check()
+
+    d = Drive("10 keeps link and session").eleven().reset().open()
+    request = message(103, 0, 5, 1, 0)
+    d.clock(label_b(1, 2, 3, 4, 5)).send(request)
+    for octets in (COLLECT_0, COLLECT_1, RESET, sound, variable(0x53, request), b"x"):
+        d.marked(octets, 0).marked(octets, -1)
+    d.again(ACK)
+    d.collect(message(72, 1, 5, 1, 0, label_b(1, 2, 3, 4, 5)))
+    d.marked(RESET, 3).again(data(message(72, 1, 5, 1, 0, label_b(1, 2, 3, 4, 5))))
+    d.refuse(message(185, 1, 5, 1, 0), 0x0E).check()
+
+    d = Drive("a marked 181 gives no order").eleven().reset().open()
+    time = label_b(5, 6, 7, 8, 9, 10, 11)
+    request = message(181, 1, 6, 1, 0, time)
+    d.marked(variable(0x53 | 0x20 * (d.fcb ^ 1), request), 12)
+    d.ask(request, with_cause(request, 7), order="clock", order_octets=time).check()
+
+    out = run("drive", b"I" + be(21, 3) + SMALL + b"E" + b"P\0\1\0\1G" * 65537 + b"O\0\1\0G")
+    ends = [(line.split(" ")[0], line.split(" ")[4]) for line in out.splitlines()[65533:]]
+    Tally.equal("the count stays at 65,535", ends,
+                [("10", "65534"), ("10", "65535"), ("10", "65535"), ("10", "65535"), ("3", "65535")])
+
+
+def altered_bits():
+    """One, two and three altered bits of a sound frame's 54, data and parity; and
+    four that make another sound frame."""
+    def altered(frame, *bits):
+        pairs = bytearray(characters(frame))
+        for bit in bits:
+            place, of_nine = divmod(bit, 9)
+            at, of_octet = (2 * place, of_nine) if of_nine < 8 else (2 * place + 1, 0)
+            pairs[at] ^= 1 << of_octet
+        return bytes(pairs)
+
+    def wrong(pairs):
+        return any(parity(octet) != bit for octet, bit in zip(pairs[::2], pairs[1::2]))
+
+    d = Drive("altered bits").eleven().reset()
+    source = random.Random(104)
+    bits = range(6 * 9)
+    threes = [source.sample(bits, 3) for _ in range(3000)]
+    for some in (*((one,) for one in bits), *((one, two) for one in bits for two in range(one)),
+                 *threes):
+        pairs = altered(COLLECT_1, *some)
+        if wrong(pairs):
+            d.characters(pairs).gap(10, what=f"bits {some}")
+        else:
+            # Two in one character: the form for 10 and 16, else the checksum.
+            d.characters(pairs).gap(3 if some[0] // 9 in (0, 5) else 4, what=f"bits {some}")
+    # 7B becomes 7A and 00 becomes 01, with their parity bits: the address is 257.
+    d.characters(altered(COLLECT_1, 9, 17, 27, 35)).gap(5, what="four bits")
+    d.run(hx("10 7A 01 01 7C 16"), 5)
+    d.collect(None, "and the count bit has not moved").check()
+
+
+def power_on_again():
+    """`E` in the middle: all of the card is gone, what is lent stays."""
+    clock = label_b(1, 2, 3, 4, 5)
+    request = message(103, 0, 5, 1, 0)
+    for before in ("ten", "eleven"):
+        d = Drive(f"E after {before} bits").clock(clock)
+        if before == "eleven":
+            d.eleven()
+        d.run(b"x", 3).reset().open().send(request).run(b"x", 3).lend(300)
+        d.octets(COLLECT_0).eleven().gap(1)
+        d.run(COLLECT_0, 7).run(COLLECT_1, 7).run(variable(0x73, OPEN_1), 7)
+        d.run(STATUS, 0, fixed(0x0B)).reset().collect(None)
+        d.refuse(request, 0x0E)
+        d.open().ask(request, message(72, 1, 5, 1, 0, clock)).check()
+
+    d = Drive("E empties the collector and clears the mark").eleven()
+    d.characters(characters(b"\x10", [0])).eleven().gap(1).run(RESET, 0, ACK)
+    d.characters(characters(b"\x10" * 262)).eleven().eleven().run(RESET, 0, ACK)
+    d.octets(RESET[:3]).eleven().octets(RESET[3:]).gap(3).check()
+
+    d = Drive("E leaves what is lent").lend(260).eleven().gap(9).lend(261).gap(1)
+    d.image(b"").eleven().gap(8).check()
+
+
+def eleven_bit_conversation():
+    """The same conversation through `O` and `P`; spoiled frames before repeats."""
+    for through in ("O", "P"):
+        d = Drive(f"through {through}", FULL).clock(CLOCK).eleven()
+        d.through = through
+        d.reset().open()
+        for kind in ROWS:
+            ask_accepted(d, kind)
+            if kind == 187:
+                d.open()
+        d.reset().open().send(message(100, 0, 5, 1, 0))
+        given = message(71, 1, 5, 1, 0, hx("12 34 BC 9A 78 56"))
+        d.marked(fixed(0x5B | 0x20 * (d.fcb ^ 1)), 1).again(ACK)
+        d.collect(given).marked(fixed(0x5B | 0x20 * d.fcb), 5)
+        d.marked(fixed(0x5B | 0x20 * (d.fcb ^ 1)), 0, 1).again(data(given))
+        d.marked(RESET, 4).again(data(given)).collect(None).check()
+
+
 # ---- the count bit ----------------------------------------------------------
 
 def count_bit():
@@ -1257,12 +1470,24 @@ def at_random():
     Tally.equal("random: six parts", {len(line.split(" ")) for line in lines}, {6})
     seen = {line.split(" ")[0] for line in lines}
     Tally.equal("random: answered and refused", seen >= {"0", "3", "8", "9"}, True)
+    calls = b"I" + be(len(SMALL), 3) + SMALL + b"E"
+    for _ in range(3000):
+        octets = source.choice([RESET, COLLECT_0, COLLECT_1, variable(0x73, OPEN_1),
+                                source.randbytes(source.randrange(1, 300))])
+        wrong = [source.randrange(len(octets))] if source.random() < 0.3 else []
+        if source.random() < 0.02:
+            calls += b"E"
+        calls += b"P" + be(len(octets), 2) + characters(octets, wrong) + b"G"
+    seen = {line.split(" ")[0] for line in run("drive", calls).splitlines()}
+    Tally.equal("random: eleven bits", seen >= {"0", "2", "3", "7", "10"}, True)
     for _ in range(60):
         run("drive", source.randbytes(200))
         run("print", b"\1" + source.randbytes(200))
 
 
-run_parts(paper_cases, labels, printing, driving, little_by_little, refusals, count_bit,
+run_parts(paper_cases, labels, printing, driving, little_by_little, refusals,
+          eleven_bit_calls, parity_bits, wrong_parity, altered_bits, power_on_again,
+          eleven_bit_conversation, count_bit,
           messages_accepted, messages_refused, passwords, clock_and_dates, totals,
           object_ranges, ranges_exchanged, diaries, standard_time_in_images,
           standard_time_in_ranges, exchanged, images, at_random)

@@ -76,6 +76,25 @@ def data(user, link=1):
     return variable(0x08, user, link)
 
 
+# ---- characters of the eleven-bit profile ------------------------------------
+
+def parity(octet):
+    """The bit that makes the number of ones even."""
+    return bin(octet).count("1") % 2
+
+
+def character(octet, bit):
+    return bytes([octet, bit])
+
+
+def characters(octets, wrong=()):
+    """As `P` takes them; those at the places in `wrong` have the other parity
+    bit. A place may be counted from the end."""
+    places = {place % len(octets) for place in wrong}
+    return b"".join(character(octet, parity(octet) ^ (place in places))
+                    for place, octet in enumerate(octets))
+
+
 # ---- messages and labels ----------------------------------------------------
 
 def message(kind, n, cause, point, record, body=b""):
@@ -219,7 +238,10 @@ class Drive:
 
     It follows three things so that each expectation can be short: the 300
     octets of the buffer, the count of damaged runs, and the next count bit.
+    Octets are given through `O` unless a part says `through = "P"`.
     """
+
+    through = "O"
 
     def __init__(self, what, image_octets=SMALL):
         self.what = what
@@ -245,13 +267,30 @@ class Drive:
         return self
 
     def octets(self, octets):
+        if self.through == "P":
+            return self.characters(characters(octets))
         self.calls += b"O" + be(len(octets), 2) + octets
         return self
+
+    def eleven(self):
+        """A card at power-on of the eleven-bit profile."""
+        self.calls += b"E"
+        self.count = 0
+        self.fcb = 0
+        return self
+
+    def characters(self, pairs):
+        self.calls += b"P" + be(len(pairs) // 2, 2) + pairs
+        return self
+
+    def marked(self, octets, *wrong, number=10, what=""):
+        """A run whose characters at these places have the wrong parity bit."""
+        return self.characters(characters(octets, wrong)).gap(number, what=what)
 
     def gap(self, number, reply=b"", order="-", order_octets=b"", what=""):
         self.calls += b"G"
         self.buffer[:len(reply)] = reply
-        if number in (2, 3, 4):
+        if number in (2, 3, 4, 10):
             self.count = min(self.count + 1, 65535)
         self.lines.append((what, f"{number} {len(reply)} {order} "
                            f"{order_octets.hex().upper() or '-'} {self.count} "

@@ -11,18 +11,22 @@ use borrow.Author.Tests.{lt-ltb}
 use lib.ListN.{length, getD, take, drop}
 use lib.Seq.{take-append-seam, getD-append-add, getD-drop, getD-set-same}
 use Rattle.octets.specs.Over.{laidIn}
+use Rattle.octets.proofs.Choice.{not-both}
 use Rattle.octets.proofs.Outcome.{RuledOut, RuledOutWith, Place, lent}
 use Rattle.image.specs.Image.{soundImage}
 use Rattle.frame.specs.declared.Fault.{Fault}
-use Rattle.frame.specs.declared.Fault.the-variants.{Empty, Long, Malformed, Spoiled}
+use Rattle.frame.specs.declared.Fault.the-variants.{Empty, Long, Parity, Malformed, Spoiled}
 use Rattle.frame.specs.declared.Service.{Service}
 use Rattle.frame.specs.Family.{sapr}
-use Rattle.frame.specs.Frame.{refused, judge, faultNumber}
+use Rattle.frame.specs.Frame.{refused, faultNumber}
 use Rattle.frame.specs.Writing.{replyOctets}
+use Rattle.profile.specs.declared.Character.{Character}
+use Rattle.profile.specs.declared.Profile.the-variants.{Ten}
+use Rattle.profile.specs.Character.{evenParity}
 use Rattle.collector.specs.declared.Collector.{Collector}
-use Rattle.collector.specs.Collecting.{emptied, isOverfull, collected, runOf, verdictOf}
+use Rattle.collector.specs.Collecting.{emptied, collectedIn, verdictOf}
 use Rattle.collector.specs.Damage.{damages, oneMore}
-use Rattle.collector.proofs.Collecting.{collected-stores}
+use Rattle.collector.proofs.Collecting.{empty-verdict, marked-verdict, collected-stores}
 use Rattle.deeds.specs.declared.Order.the-variants.{NoOrder}
 use Rattle.link.specs.declared.Sends.the-variants.{NotReset}
 use Rattle.link.specs.declared.Answered.{Answered}
@@ -34,15 +38,16 @@ use Rattle.card.specs.declared.Finding.{Finding}
 use Rattle.card.specs.declared.Finding.the-variants.{Faulty, OtherLink, NotOffered, Asks}
 use Rattle.card.specs.declared.Examined.{Examined}
 use Rattle.card.specs.declared.Gone.{Gone}
-use Rattle.card.specs.State.{cardAtPowerOn, withOctet, leftWith, damagedBy}
+use Rattle.card.specs.State.{cardAtPowerOn, withCharacter, leftWith, damagedBy}
 use Rattle.card.specs.Examining.{examined}
 use Rattle.card.specs.Gap.{Outcome, refusal, repliedBy, afterFinding, afterExamining, gapped, goneBy}
-use Rattle.card.proofs.State.{octets-collected}
+use Rattle.card.proofs.State.{characters-collected}
 use Rattle.card.proofs.Gap.{answer-unreset, answer-replied, gap-short, gap-unsound, gap-examined, gap-end, End, short, unsound, faulty, other-link, not-offered, not-reset, replied}
 use Rattle.card.proofs.Card.gap.Reads as card-gap
 use Rattle.card.proofs.Card.power_on.Reads as card-power-on
 use Rattle.card.proofs.Card.octet.Reads as card-octet
 use Rattle.card.proofs.Card.octets.Reads as card-octets
+use Rattle.card.proofs.Card.character.Reads as card-character
 
 module _ (κs : Lfts 0) (wrong : Card) where
   -- a count of damaged runs at power-on that is not 0
@@ -63,38 +68,56 @@ module _ (κs : Lfts 0) (wrong : Card) where
   module _ (card : Card) (octet : ℕ) where
     -- an octet that changes the link, whatever the card
     octet-link : (wrong .link ≡ card .link → ⊥) → RuledOut (card-octet.Post κs) (card, (octet, tt)) wrong
-    unfolding withOctet
+    unfolding withCharacter
     octet-link other s p = other (ap (λ (c : Card). c .link) p)
 
     -- an octet that is counted as a damaged run, or changes that count
     octet-damaged : (wrong .damaged ≡ card .damaged → ⊥) → RuledOut (card-octet.Post κs) (card, (octet, tt)) wrong
-    unfolding withOctet
+    unfolding withCharacter
     octet-damaged other s p = other (ap (λ (c : Card). c .damaged) p)
 
     -- another octet put in than the one that came
     octet-other : card .collector .length < 261 → length (card .collector .octets) ≡ 261
         → (getD (wrong .collector .octets) (card .collector .length) 0 ≡ octet → ⊥)
         → RuledOut (card-octet.Post κs) (card, (octet, tt)) wrong
-    unfolding withOctet collected
+    unfolding withCharacter collectedIn
     octet-other room whole other s p =
         other (ap (λ (c : Card). getD (c .collector .octets) (card .collector .length) 0) (rw (lt-ltb (card .collector .length) 261 room) at p)
         ∙ getD-set-same (card .collector .octets) (card .collector .length) octet 0 (omega arith))
 
+  module _ (card : Card) (x : Character) where
+    -- a character that changes the link, whatever the card
+    character-link : (wrong .link ≡ card .link → ⊥) → RuledOut (card-character.Post κs) (card, (x, tt)) wrong
+    unfolding withCharacter
+    character-link other s p = other (ap (λ (c : Card). c .link) p)
+
+    -- a wrong parity bit counted as a damaged run before the gap
+    character-damaged : (wrong .damaged ≡ card .damaged → ⊥) → RuledOut (card-character.Post κs) (card, (x, tt)) wrong
+    unfolding withCharacter
+    character-damaged other s p = other (ap (λ (c : Card). c .damaged) p)
+
+    -- a wrong parity bit that leaves the run without a mark
+    character-unmarked : card .collector .length < 261 → evenParity x ≡ false → wrong .collector .marked ≡ false
+        → RuledOut (card-character.Post κs) (card, (x, tt)) wrong
+    unfolding withCharacter collectedIn
+    character-unmarked room odd lost s p =
+        not-both lost (ap (λ (c : Card). c .collector .marked) (rw (lt-ltb (card .collector .length) 261 room, odd) at p))
+
 module _ (κs : Lfts 1) (x : Place) (card wrong : Card) (octets : List ℕ) where
   -- octets that change the link, whatever the card
   octets-link : (wrong .link ≡ card .link → ⊥) → RuledOut (card-octets.Post κs) (card, (lent x octets, tt)) wrong
-  octets-link other s p = other (ap (λ (c : Card). c .link) (p ∙ octets-collected octets card))
+  octets-link other s p = other (ap (λ (c : Card). c .link) (p ∙ characters-collected Ten octets card))
 
   -- octets that are counted as a damaged run, or change that count
   octets-damaged : (wrong .damaged ≡ card .damaged → ⊥) → RuledOut (card-octets.Post κs) (card, (lent x octets, tt)) wrong
-  octets-damaged other s p = other (ap (λ (c : Card). c .damaged) (p ∙ octets-collected octets card))
+  octets-damaged other s p = other (ap (λ (c : Card). c .damaged) (p ∙ characters-collected Ten octets card))
 
   -- only the first of the octets put in, or one more than came
   octets-counted : card .collector .length + length octets ≤ 261 → (wrong .collector .length ≡ card .collector .length + length octets → ⊥)
       → RuledOut (card-octets.Post κs) (card, (lent x octets, tt)) wrong
   octets-counted room other s p =
-      other (ap (λ (c : Card). c .collector .length) (p ∙ octets-collected octets card)
-      ∙ ap (λ (c : Collector). c .length) (collected-stores octets (card .collector) room))
+      other (ap (λ (c : Card). c .collector .length) (p ∙ characters-collected Ten octets card)
+      ∙ ap (λ (c : Collector). c .length) (collected-stores Ten octets (card .collector) room))
 
 -- what a damaged run leaves
 module _ (card : Card) where
@@ -102,6 +125,7 @@ module _ (card : Card) where
   unfolding damagedBy
   damaged-link Empty = refl
   damaged-link Long = refl
+  damaged-link Parity = refl
   damaged-link Malformed = refl
   damaged-link Spoiled = refl
 
@@ -109,6 +133,7 @@ module _ (card : Card) where
   unfolding damagedBy
   damaged-emptied Empty some = absurd (some refl)
   damaged-emptied Long some = refl
+  damaged-emptied Parity some = refl
   damaged-emptied Malformed some = refl
   damaged-emptied Spoiled some = refl
 
@@ -211,7 +236,7 @@ module _ (κs : Lfts 2) (x y : Place) (card : Card) (image clock buffer : List �
   gap-refused-buffer left refused-by other s e p =
       other (sym e ∙ p .left-so ∙ ap (λ (l : List ℕ). laidIn buffer l) (plain (p .answers) refused-by .reply-none))
 
-  -- a run that is kept after an answer, or after a refusal by 2 to 7
+  -- a run that is kept after an answer, or after a refusal by 2 to 7 or 10
   gap-run-kept : (wrong .number ≡ 1 → ⊥) → (wrong .number ≡ 8 → ⊥) → (wrong .number ≡ 9 → ⊥) → (wrong .card .collector ≡ emptied → ⊥)
       → RuledOut (card-gap.Post κs) given wrong
   unfolding goneBy
@@ -235,8 +260,8 @@ module _ (κs : Lfts 2) (x y : Place) (card : Card) (image clock buffer : List �
 
     -- an empty run among them
     by-empty : card .collector .length ≡ 0 → said ≡ refusal 1 card
-    unfolding verdictOf isOverfull runOf judge damagedBy
-    by-empty none = by-fault Empty (rw none)
+    unfolding damagedBy
+    by-empty none = by-fault Empty (empty-verdict sapr (card .collector) none)
 
     -- another number than 1 for an empty run
     gap-empty-number : card .collector .length ≡ 0 → (wrong .number ≡ 1 → ⊥) → RuledOut (card-gap.Post κs) given wrong
@@ -250,6 +275,11 @@ module _ (κs : Lfts 2) (x y : Place) (card : Card) (image clock buffer : List �
     gap-damaged-answered : (fault : Fault) → verdictOf sapr (card .collector) ≡ refused fault → (wrong .number ≡ faultNumber fault → ⊥)
         → RuledOut (card-gap.Post κs) given wrong
     gap-damaged-answered fault v other s p = other (numbered (faultNumber fault) (damagedBy fault card) (by-fault fault v) (p .answers))
+
+    -- a marked run answered, or refused by another number than 10
+    gap-marked-number : 0 < card .collector .length → card .collector .length ≤ 261 → length (card .collector .octets) ≡ 261 → card .collector .marked ≡ true
+        → (wrong .number ≡ 10 → ⊥) → RuledOut (card-gap.Post κs) given wrong
+    gap-marked-number some h octets marked = gap-damaged-answered Parity (marked-verdict sapr (card .collector) some h octets marked)
 
     -- a damaged run that is not counted, though the count is not at its end
     gap-damaged-uncounted : (fault : Fault) → verdictOf sapr (card .collector) ≡ refused fault → damages fault ≡ true → card .damaged < 65535

@@ -1,5 +1,5 @@
--- A run examined. Document 01, "What a gap answers", 1 to 6: empty, over 261 octets, not the form of a frame, checksum wrong, other link
--- address, control field not offered; or a sound frame for this card, and what it asks. Assumes nothing.
+-- A run examined. Document 01, "What a gap answers", 1 to 6, and 10 between 2 and 3: empty, over 261 octets, a parity bit wrong, not the form of a frame,
+-- checksum wrong, other link address, control field not offered; or a sound frame for this card, and what it asks. Assumes nothing.
 use Prim.Native.Nat.{ℕ}
 use mathlib.Core.Bool.{Bool, false, not}
 use mathlib.Core.List.{List, []}
@@ -42,7 +42,7 @@ unfoldable pub examinedFrame : List ℕ → Form → ℕ → LinkAddress → Lis
 examinedFrame image form control link user =
     if not (isLink (identityFound image) link) then noFrame OtherLink else heard (offered form control) user
 
--- 1 to 4; or a sound frame
+-- 1, 2, 10, 3, 4; or a sound frame
 abbrev pub examinedVerdict : List ℕ → Verdict → Examined
 examinedVerdict image (refused fault) = noFrame (Faulty fault)
 examinedVerdict image (sound (fixed c a)) = examinedFrame image Fixed c (record { 0 = a }) []

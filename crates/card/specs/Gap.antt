@@ -1,4 +1,4 @@
--- What a gap answers and leaves. Document 01, "What a gap answers": the numbers in the order 9, 8, 1, 2, 3, 4, 5, 6, 7, then 0.
+-- What a gap answers and leaves. Document 01, "What a gap answers": the numbers in the order 9, 8, 1, 2, 10, 3, 4, 5, 6, 7, then 0.
 -- Assumes nothing.
 use Prim.Native.Nat.{ℕ}
 use mathlib.Core.Bool.{not}
@@ -53,7 +53,7 @@ afterSending card a (Status address) = repliedBy card a (replySent (Status addre
 unfoldable pub afterAnswer : Card → Answered → Outcome
 afterAnswer card a = afterSending card a (a .sends)
 
--- 1: nothing changes; 2 to 6: the collector is emptied, link and session are kept. What answers is given no count of damaged runs
+-- 1: nothing changes; 2, 10, 3 to 6: the collector is emptied, link and session are kept. What answers is given no count of damaged runs
 abbrev pub afterFinding : Card → Finding → Kept → List ℕ → List ℕ → Outcome
 afterFinding card (Faulty fault) user image clock = refusal (faultNumber fault) (damagedBy fault card)
 afterFinding card OtherLink user image clock = refusal 5 (leftWith (card .link) card)

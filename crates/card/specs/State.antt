@@ -4,8 +4,11 @@ use Prim.Native.Nat.{ℕ}
 use mathlib.Core.List.{List, [], _∷_}
 use Rattle.octets.specs.Choice.{if_then_else_}
 use Rattle.frame.specs.declared.Fault.{Fault}
+use Rattle.profile.specs.declared.Profile.{Profile}
+use Rattle.profile.specs.declared.Profile.the-variants.{Ten}
+use Rattle.profile.specs.Profile.{CharacterIn}
 use Rattle.collector.specs.declared.Collector.{Collector}
-use Rattle.collector.specs.Collecting.{emptied, collected}
+use Rattle.collector.specs.Collecting.{emptied, collectedIn}
 use Rattle.collector.specs.Damage.{damages, oneMore}
 use Rattle.link.specs.declared.Link.{Link}
 use Rattle.link.specs.State.{powerOn}
@@ -19,14 +22,21 @@ cardAtPowerOn = record { collector = emptied; link = powerOn; damaged = 0 }
 abbrev pub collecting : Collector → Card → Card
 collecting collector card = record { collector = collector; link = card .link; damaged = card .damaged }
 
--- an octet is put into the collector
-unfoldable pub withOctet : Card → ℕ → Card
-withOctet card octet = collecting (collected (card .collector) octet) card
+-- a character is put into the collector
+unfoldable pub withCharacter : (p : Profile) → Card → CharacterIn p → Card
+withCharacter p card x = collecting (collectedIn p (card .collector) x) card
 
--- octets are put in, one after the other
-unfoldable pub withOctets : Card → List ℕ → Card
-withOctets card [] = card
-withOctets card (octet ∷ rest) = withOctets (withOctet card octet) rest
+-- characters are put in, one after the other
+unfoldable pub withCharacters : (p : Profile) → Card → List (CharacterIn p) → Card
+withCharacters p card [] = card
+withCharacters p card (x ∷ rest) = withCharacters p (withCharacter p card x) rest
+
+-- with ten bits they are octets
+abbrev pub withOctet : Card → ℕ → Card
+withOctet card octet = withCharacter Ten card octet
+
+abbrev pub withOctets : Card → List ℕ → Card
+withOctets card octets = withCharacters Ten card octets
 
 -- the run is gone: the collector is as fresh; the link is as it is then
 unfoldable pub leftWith : Link → Card → Card

@@ -1,13 +1,17 @@
-// The card: its state, an octet, a run examined, a gap.
+// The card: its state, a character, a run examined, a gap.
 ghost use Prim.Native.Nat.{_≤_};
 ghost use mathlib.Core.Path.{_≡_};
+ghost use lib.Dec.{ltb};
 ghost use lib.ListN.{length};
 ghost use Rattle.octets.specs.Over.{laidIn, Does};
+ghost use Rattle.octets.specs.Choice.{if_then_else_};
+ghost use Rattle.frame.specs.declared.Fault.the-variants.{Empty, Parity};
 ghost use Rattle.frame.specs.Family.{sapr};
 ghost use Rattle.frame.specs.Frame.{judge};
 ghost use Rattle.frame.specs.Writing.{replyOctets};
+ghost use Rattle.profile.specs.declared.Profile.the-variants.{Eleven};
 ghost use Rattle.fields.specs.Answers.{identityFound};
-ghost use Rattle.card.specs.State.{cardAtPowerOn, collecting, withOctet, withOctets, leftWith, damagedBy};
+ghost use Rattle.card.specs.State.{cardAtPowerOn, collecting, withCharacter, withOctet, withOctets, leftWith, damagedBy};
 ghost use Rattle.card.specs.Examining.{noFrame, isLink, heard, examinedFrame, examinedVerdict, examined};
 ghost use Rattle.card.specs.Gap.{refusal, afterAnswer, afterExamining, gapped, goneBy, Gapped};
 use address::LinkAddress;
@@ -26,6 +30,7 @@ use link::Answered;
 use link::Link;
 use link::Sends;
 use octets::Kept;
+use profile::Character;
 
 // The octets since the last gap, the link with its session, the count of damaged runs.
 pub struct Card {
@@ -64,8 +69,21 @@ fn examine(collector: Collector, image: &[u8]) -> Examined
     if Judged::LONGEST < collector.length as usize {
         return found(Finding::Faulty(Fault::Long));
     }
+    if collector.marked {
+        return found(Finding::Faulty(fault_of_marked(collector.length)));
+    }
     let octets = collector.octets;
     examine_run(octets::part(&octets, 0, collector.length as usize), image)
+}
+
+// What a marked run of so many octets is: an empty one is empty, as without the mark.
+fn fault_of_marked(length: u16) -> Fault
+    ensures { λ r. ⌜ r ≡ (if ltb 0 length then Parity else Empty) ⌝ }
+{
+    if 0 < length {
+        return Fault::Parity;
+    }
+    Fault::Empty
 }
 
 fn found(finding: Finding) -> Examined
@@ -156,6 +174,14 @@ impl Card {
     {
         let collector = self.collector;
         self.collecting(collector.with(octet))
+    }
+
+    // A character of eleven bits came in: an octet with its parity bit.
+    pub fn character(self, character: Character) -> Card
+        ensures { λ r. ⌜ r ≡ withCharacter Eleven self character ⌝ }
+    {
+        let collector = self.collector;
+        self.collecting(collector.with_character(character))
     }
 
     // Octets came in, one after the other; the card is copied once for all of them.

@@ -1,18 +1,22 @@
-// What comes in: the collector of octets, and the count of damaged runs.
+// What comes in: the collector of characters, and the count of damaged runs.
 ghost use Prim.Native.Nat.{_+_, _-_, _≤_};
 ghost use mathlib.Core.Path.{_≡_};
 ghost use lib.ListN.{length};
 ghost use Rattle.octets.specs.Over.{over};
-ghost use Rattle.collector.specs.Collecting.{emptied, overfull, collected};
+ghost use Rattle.profile.specs.declared.Profile.the-variants.{Ten, Eleven};
+ghost use Rattle.collector.specs.Collecting.{emptied, overfull, collected, collectedIn};
 ghost use Rattle.collector.specs.Calls.{collectedAll, PutIn};
 ghost use Rattle.collector.specs.Damage.{damages, oneMore};
 use frame::Fault;
 use frame::Judged;
+use profile::Character;
 
-// The octets since the last gap: the first so many of the array, zeros behind. A length over 261 means overfull.
+// The octets since the last gap: the first so many of the array, zeros behind. The mark says that a parity bit was wrong; it stands where the array leaves
+// one octet before the length, so that it costs no room. A length over 261 means overfull.
 #[repr(C)]
 pub struct Collector {
     pub octets: [u8; 261],
+    pub marked: bool,
     pub length: u16,
 }
 
@@ -22,6 +26,7 @@ impl Collector {
     {
         Collector {
             octets: [0; 261],
+            marked: false,
             length: 0,
         }
     }
@@ -40,6 +45,25 @@ impl Collector {
         Collector::overfull()
     }
 
+    // A character is put in: a wrong parity bit marks the run, and the octet counts.
+    pub fn with_character(self, character: Character) -> Collector
+        ensures { λ r. ⌜ r ≡ collectedIn Eleven self character ⌝ }
+    {
+        let mut next = self;
+        if character.is_right() {
+            return next.with(character.octet);
+        }
+        next.marked = true;
+        next.with(character.octet)
+    }
+
+    // The same of an octet and the parity bit that came with it.
+    fn with_parity(self, octet: u8, parity: bool) -> Collector
+        ensures { λ r. ⌜ r ≡ collectedIn Eleven self (record { octet = octet; parity = parity }) ⌝ }
+    {
+        self.with_character(Character { octet, parity })
+    }
+
     // Octets are put in, one after the other: behind those that are in, all at once. Where one finds no room, the collector is overfull.
     pub fn with_all(self, octets: &[u8]) -> Collector
         ensures { λ r. ⌜ r ≡ collectedAll self (now (octets .entry)) ⌝ }
@@ -54,6 +78,7 @@ impl Collector {
         let at = self.length as usize;
         Collector {
             octets: written(kept, at, octets),
+            marked: self.marked,
             length: (at + octets.len()) as u16,
         }
     }
@@ -89,11 +114,17 @@ fn written(octets: [u8; 261], at: usize, top: &[u8]) -> [u8; 261]
 // The same of a collector that is lent.
 #[no_mangle]
 pub extern "C" fn collect(collector: &mut Collector, octet: u8)
-    ensures { λ _. ⌜ PutIn (now (collector .entry)) octet (now (collector .exit)) ⌝ }
+    ensures { λ _. ⌜ PutIn Ten (now (collector .entry)) octet (now (collector .exit)) ⌝ }
 {
-    let had = *collector;
-    let next = had.with(octet);
-    *collector = next;
+    *collector = collector.with(octet);
+}
+
+// A character put into a collector that is lent.
+#[no_mangle]
+pub extern "C" fn collect_character(collector: &mut Collector, octet: u8, parity: bool)
+    ensures { λ _. ⌜ PutIn Eleven (now (collector .entry)) (record { octet = octet; parity = parity }) (now (collector .exit)) ⌝ }
+{
+    *collector = collector.with_parity(octet, parity);
 }
 
 // Whether a run that is no sound frame is damaged: one that is not empty.
@@ -103,6 +134,7 @@ pub fn is_damaged(fault: Fault) -> bool
     match fault {
         Fault::Empty => false,
         Fault::Long => true,
+        Fault::Parity => true,
         Fault::Malformed => true,
         Fault::Spoiled => true,
     }

@@ -1,6 +1,7 @@
 // The driving program: calls of a card from standard input, a line for each gap. second/README.md, "The driving face". It only reads
 // (`stream`), steps (`driving`) and writes (`stream`), each line at once.
 use driving::Held;
+use profile::Profile;
 use stream::Texts;
 use stream::Window;
 
@@ -14,16 +15,21 @@ struct Bench {
 }
 
 // The window begins with a call: a letter and what follows it. Each reading says how much more is to be read.
-fn read_call(space: &mut [u8], window: Window) -> Window {
-    let letter = stream::filled(space, window, input::call_size(b""));
-    let start = stream::filled(space, letter, input::call_size(stream::seen(space, letter)));
-    let size = input::call_size(stream::seen(space, start));
+fn read_call(profile: Profile, space: &mut [u8], window: Window) -> Window {
+    let letter = stream::filled(space, window, input::call_size(profile, b""));
+    let start = stream::filled(
+        space,
+        letter,
+        input::call_size(profile, stream::seen(space, letter)),
+    );
+    let size = input::call_size(profile, stream::seen(space, start));
     stream::filled(space, start, size)
 }
 
 // A call is done, its text written.
 fn done(bench: Bench, call: &[u8], rest: Window, image: &mut [u8], buffer: &mut [u8]) -> Bench {
     let held = bench.held;
+    let profile = held.profile;
     let had = bench.image;
     let mut text = [0u8; 1024];
     let left = driving::step(&mut text, held, octets::part(image, 0, had), buffer, call);
@@ -37,7 +43,7 @@ fn done(bench: Bench, call: &[u8], rest: Window, image: &mut [u8], buffer: &mut 
     );
     Bench {
         held: next,
-        image: driving::image_after(image, had, call),
+        image: driving::image_after(profile, image, had, call),
         rest,
         more: sent.going,
     }
@@ -46,9 +52,11 @@ fn done(bench: Bench, call: &[u8], rest: Window, image: &mut [u8], buffer: &mut 
 // The next call of the input.
 fn turn(bench: Bench, space: &mut [u8], image: &mut [u8], buffer: &mut [u8]) -> Bench {
     let rest = bench.rest;
-    let window = read_call(space, rest);
+    let held = bench.held;
+    let profile = held.profile;
+    let window = read_call(profile, space, rest);
     let read = stream::seen(space, window);
-    let size = input::call_size(read);
+    let size = input::call_size(profile, read);
     done(
         bench,
         octets::part(read, 0, size),
@@ -79,7 +87,8 @@ fn calls(space: &mut [u8], image: &mut [u8], buffer: &mut [u8]) {
 }
 
 fn main() {
-    let mut space = [0u8; 131072];
+    // The longest call, a P of 65,535 characters, has 131,073 octets.
+    let mut space = [0u8; 196608];
     let mut image = [0u8; 65600];
     let mut buffer = [0xAAu8; 300];
     calls(&mut space, &mut image, &mut buffer);

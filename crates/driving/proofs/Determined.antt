@@ -16,5 +16,5 @@ start-one κs a r r′ s s′ = one-outcome
 step-one : OneOutcome {L = List ℕ × List ℕ} (λ κs s. (now (s .1 .1 .1 .0), now (s .0))) step.Post
 step-one κs a r r′ s s′ = stepped-one _ _
 
-image-after-one : OneOutcome (λ κs s. now (s .0)) image-after.Post
+image-after-one : OneOutcome (λ κs s. now (s .1 .0)) image-after.Post
 image-after-one κs a r r′ s s′ = does-one

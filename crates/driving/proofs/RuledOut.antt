@@ -13,12 +13,15 @@ use Rattle.octets.specs.Numbers.{lowFirst, highFirst}
 use Rattle.octets.specs.Over.{over}
 use Rattle.octets.specs.Calls.{fitsAt}
 use Rattle.octets.proofs.Outcome.{RuledOut, RuledOutWith, Place, lent}
-use Rattle.card.specs.State.{cardAtPowerOn, withOctets}
+use Rattle.profile.specs.declared.Profile.{Profile}
+use Rattle.profile.specs.declared.Profile.the-variants.{Eleven}
+use Rattle.card.specs.State.{cardAtPowerOn, withCharacters, withOctets}
+use Rattle.card.proofs.State.{sent-all}
 use Rattle.card.specs.Gap.{Outcome, gapped}
-use Rattle.input.specs.Input.{lengthOf2, lengthOf3, clockAt, callSize, wholeCall, callFound}
+use Rattle.input.specs.Input.{lengthOf2, lengthOf3, clockAt, areBits, charactersIn, callSize, wholeCall, callFound}
 use Rattle.driving.specs.declared.Held.{Held}
 use Rattle.driving.specs.declared.Left.{Left}
-use Rattle.driving.specs.Driven.{atStart, withClock, withRoom, withCard, withBuffer, lineStep, gapStep, afterCall, callStep}
+use Rattle.driving.specs.Driven.{atStart, withClock, withRoom, withCard, withProfile, withBuffer, lineStep, gapStep, afterCall, callStep}
 use Rattle.driving.specs.Stepped.{benchOf, heldOf, leftBy}
 use Rattle.driving.proofs.start.Reads as start
 use Rattle.driving.proofs.step.Reads as step
@@ -71,7 +74,25 @@ module _ (κs : Lfts 4) (x y z w : Place) (out image buffer : List ℕ) (held : 
   step-octets-order : (a b : ℕ) → (wrong .held .card ≡ withOctets (held .card) (a ∷ b ∷ []) → ⊥)
       → RuledOut (step.Post κs) (lent x out, (held, (lent y image, (lent z buffer, (lent w (79 ∷ 0 ∷ 2 ∷ a ∷ b ∷ []), tt))))) wrong
   unfolding callStep callFound callSize wholeCall lengthOf2 highFirst lowFirst afterCall benchOf leftBy heldOf withCard
-  step-octets-order a b other s p = other (ap (λ (l : Left). l .held .card) (p .0 .answers))
+  step-octets-order a b other s p = other (ap (λ (l : Left). l .held .card) (p .0 .answers) ∙ sent-all (held .profile) (a ∷ b ∷ []) (held .card))
+
+  -- a card of the ten-bit profile behind an E, or of no profile that it says
+  step-eleven-profile : (wrong .held .profile ≡ Eleven → ⊥)
+      → RuledOut (step.Post κs) (lent x out, (held, (lent y image, (lent z buffer, (lent w (69 ∷ []), tt))))) wrong
+  unfolding callStep callFound callSize wholeCall afterCall benchOf leftBy heldOf withCard withProfile
+  step-eleven-profile other s p = other (ap (λ (l : Left). l .held .profile) (p .0 .answers))
+
+  -- the card as it was behind an E
+  step-eleven-card : (wrong .held .card ≡ cardAtPowerOn → ⊥)
+      → RuledOut (step.Post κs) (lent x out, (held, (lent y image, (lent z buffer, (lent w (69 ∷ []), tt))))) wrong
+  unfolding callStep callFound callSize wholeCall afterCall benchOf leftBy heldOf withCard withProfile
+  step-eleven-card other s p = other (ap (λ (l : Left). l .held .card) (p .0 .answers))
+
+  -- a character given to the card with another parity bit than the one that came
+  step-characters-bit : (a : ℕ) → held .profile ≡ Eleven → (wrong .held .card ≡ withCharacters Eleven (held .card) (record { octet = a; parity = true } ∷ []) → ⊥)
+      → RuledOut (step.Post κs) (lent x out, (held, (lent y image, (lent z buffer, (lent w (80 ∷ 0 ∷ 1 ∷ a ∷ 1 ∷ []), tt))))) wrong
+  unfolding callStep callFound callSize wholeCall areBits charactersIn lengthOf2 highFirst lowFirst afterCall benchOf leftBy heldOf withCard
+  step-characters-bit a eleven other s p = other (ap (λ (l : Left). l .held .card) (rw eleven at (p .0 .answers)))
 
   -- the buffer changed by octets that come in
   step-octets-buffer : (a : ℕ) (left : List ℕ) → (left ≡ buffer → ⊥)
@@ -116,27 +137,27 @@ module _ (κs : Lfts 4) (x y z w : Place) (out image buffer : List ℕ) (held : 
   unfolding callStep callFound callSize wholeCall afterCall benchOf leftBy heldOf withClock clockAt over
   step-clock-six a b c d e f g some six s p = some (ap (λ (l : List ℕ). getD l 6 0) (sym six ∙ ap (λ (l : Left). l .held .clock) (p .0 .answers)))
 
-module _ (κs : Lfts 2) (x y : Place) (space : List ℕ) (had wrong : ℕ) where
+module _ (κs : Lfts 2) (p : Profile) (x y : Place) (space : List ℕ) (had wrong : ℕ) where
   -- the image of an I not lent, its octets not counted
   image-after-count : (a : ℕ) → 1 ≤ length space → (wrong ≡ 1 → ⊥)
-      → RuledOut (image-after.Post κs) (lent x space, (had, (lent y (73 ∷ 0 ∷ 0 ∷ 1 ∷ a ∷ []), tt))) wrong
+      → RuledOut (image-after.Post κs) (p, (lent x space, (had, (lent y (73 ∷ 0 ∷ 0 ∷ 1 ∷ a ∷ []), tt)))) wrong
   unfolding callFound callSize wholeCall lengthOf3 highFirst lowFirst fitsAt
-  image-after-count a room other s p = other (rw (le-leb 1 (length space) room) at (p .answers))
+  image-after-count a room other s w = other (rw (le-leb 1 (length space) room) at (w .answers))
 
   -- the image of an I not in the first octets of its space
   image-after-first : (a : ℕ) (left : List ℕ) → 1 ≤ length space → (getD left 0 0 ≡ a → ⊥)
-      → RuledOutWith (λ s. now (s .0)) (image-after.Post κs) (lent x space, (had, (lent y (73 ∷ 0 ∷ 0 ∷ 1 ∷ a ∷ []), tt))) wrong left
+      → RuledOutWith (λ s. now (s .1 .0)) (image-after.Post κs) (p, (lent x space, (had, (lent y (73 ∷ 0 ∷ 0 ∷ 1 ∷ a ∷ []), tt)))) wrong left
   unfolding callFound callSize wholeCall lengthOf3 highFirst lowFirst fitsAt
-  image-after-first a left room other s e p =
-      other (ap (λ (l : List ℕ). getD l 0 0) (sym e ∙ rw (le-leb 1 (length space) room) at (p .left-so)))
+  image-after-first a left room other s e w =
+      other (ap (λ (l : List ℕ). getD l 0 0) (sym e ∙ rw (le-leb 1 (length space) room) at (w .left-so)))
 
   -- another image behind a gap than before it
-  image-after-gap : (wrong ≡ had → ⊥) → RuledOut (image-after.Post κs) (lent x space, (had, (lent y (71 ∷ []), tt))) wrong
+  image-after-gap : (wrong ≡ had → ⊥) → RuledOut (image-after.Post κs) (p, (lent x space, (had, (lent y (71 ∷ []), tt)))) wrong
   unfolding callFound callSize wholeCall
-  image-after-gap other s p = other (p .answers)
+  image-after-gap other s w = other (w .answers)
 
   -- the octets of an O put into the image's space
   image-after-octets : (a : ℕ) (left : List ℕ) → (left ≡ space → ⊥)
-      → RuledOutWith (λ s. now (s .0)) (image-after.Post κs) (lent x space, (had, (lent y (79 ∷ 0 ∷ 1 ∷ a ∷ []), tt))) wrong left
+      → RuledOutWith (λ s. now (s .1 .0)) (image-after.Post κs) (p, (lent x space, (had, (lent y (79 ∷ 0 ∷ 1 ∷ a ∷ []), tt)))) wrong left
   unfolding callFound callSize wholeCall lengthOf2 highFirst lowFirst
-  image-after-octets a left other s e p = other (sym e ∙ p .left-so)
+  image-after-octets a left other s e w = other (sym e ∙ w .left-so)

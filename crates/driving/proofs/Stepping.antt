@@ -1,4 +1,4 @@
--- What the parts of a call come to: octets that come in one by one, an image put into its space, a gap that is lent a part of the buffer, and
+-- What the parts of a call come to: octets and characters that come in one by one, an image put into its space, a gap that is lent a part of the buffer, and
 -- a step's text. By the laws of lists, and by whether a text fits. Assumes nothing.
 use Prim.Native.Nat.{ℕ, _+_, _-_, _≤_, _<_}
 use mathlib.Core.Bool.{Bool, true, false}
@@ -9,6 +9,7 @@ use native.Mathlib.Omega.{arith}
 use types.Run.{OneOf, miss}
 use denote.Enum.Declared.{tagOf}
 use borrow.Author.Tests.{le-leb}
+use lib.Dec.{eqb}
 use lib.ListN.{length, take, drop, getD, length-append, length-drop, take-append-drop}
 use lib.Seq.{length-take-le, take-all, drop-cons, drop-append-le, drop-length}
 use Rattle.octets.specs.Over.{laidIn}
@@ -16,14 +17,16 @@ use Rattle.octets.specs.Calls.{fitsAt}
 use Rattle.octets.proofs.Choice.{told}
 use Rattle.octets.proofs.Outcome.{one-outcome, does-one}
 use Rattle.octets.proofs.Over.{Put, over-first}
+use Rattle.profile.specs.declared.Profile.the-variants.{Eleven}
 use Rattle.card.specs.declared.Card.{Card}
 use Rattle.card.specs.declared.Gone.{Gone}
-use Rattle.card.specs.State.{withOctet, withOctets}
+use Rattle.card.specs.State.{withCharacter, withCharacters, withOctet, withOctets}
 use Rattle.card.specs.Gap.{Outcome, gapped, goneBy, Gapped}
 use Rattle.input.specs.declared.Call.{Call}
 use Rattle.input.specs.declared.Call.the-variants as call
-use Rattle.input.specs.Input.{callFound}
+use Rattle.input.specs.Input.{charactersIn, callFound}
 use Rattle.input.proofs.Call.{the-type}
+use Rattle.input.proofs.Pairs.{characters-next, characters-end}
 use Rattle.printing.specs.Line.{gapLine, Lined}
 use Rattle.driving.specs.declared.Held.{Held}
 use Rattle.driving.specs.declared.Left.{Left}
@@ -33,13 +36,24 @@ use Rattle.driving.specs.Stepped.{benchOf, heldOf, leftBy, Writes, Stepp
 -- one octet more comes in
 pub octets-next : (octets : List ℕ) (i : ℕ) (card next : Card) → i < length octets → next ≡ withOctet card (getD octets i 0)
     → withOctets next (drop (i + 1) octets) ≡ withOctets card (drop i octets)
-unfolding withOctets
+unfolding withCharacters
 octets-next octets i card next h e = rw (e, add-one, drop-cons octets i 0 h)
 
 -- and none is left
 pub octets-end : (octets : List ℕ) (i : ℕ) (card : Card) → i ≡ length octets → card ≡ withOctets card (drop i octets)
-unfolding withOctets
+unfolding withCharacters
 octets-end octets i card e = rw (e, drop-length octets)
+
+-- the same of pairs of an octet and its parity bit
+pub pairs-next : (pairs : List ℕ) (i : ℕ) (card next : Card) → i + 1 < length pairs
+    → next ≡ withCharacter Eleven card (record { octet = getD pairs i 0; parity = eqb (getD pairs (i + 1) 0) 1 })
+    → withCharacters Eleven next (charactersIn (drop (i + 2) pairs)) ≡ withCharacters Eleven card (charactersIn (drop i pairs))
+unfolding withCharacters
+pairs-next pairs i card next h e = rw (e, characters-next pairs i h)
+
+pub pairs-end : (pairs : List ℕ) (i : ℕ) (card : Card) → length pairs ≤ i + 1 → card ≡ withCharacters Eleven card (charactersIn (drop i pairs))
+unfolding withCharacters
+pairs-end pairs i card h = rw (characters-end pairs i h)
 
 -- all that stands behind an index
 pub rest-all : (at : ℕ) (octets : List ℕ) → take (length octets) (drop at octets) ≡ drop at octets
@@ -59,7 +73,7 @@ module _ (space image : List ℕ) (had : ℕ) {left : List ℕ} {done : Bool} (p
 
 -- a call that is no I leaves the image
 abbrev others : List ℕ
-others = 0 ∷ 1 ∷ 2 ∷ 4 ∷ 5 ∷ 6 ∷ 7 ∷ []
+others = 0 ∷ 1 ∷ 2 ∷ 4 ∷ 5 ∷ 6 ∷ 7 ∷ 8 ∷ 9 ∷ []
 
 no-image : (x : Call) → OneOf others (tagOf the-type x) → isImage x ≡ false
 no-image call.End o = refl
@@ -69,6 +83,8 @@ no-image call.Image o = absurd (miss others 3 tt o)
 no-image call.Clock o = refl
 no-image call.Room o = refl
 no-image call.Octets o = refl
+no-image call.ElevenBits o = refl
+no-image call.Characters o = refl
 no-image call.Gap o = refl
 
 pub image-stays : (x : Call) (space : List ℕ) (had : ℕ) (image : List ℕ) → OneOf others (tagOf the-type x) → ImageAfter x space had image had space
@@ -100,7 +116,7 @@ gap-all card image clock buffer room h g = rw (take-all room buffer h) g
 pub gap-stepped : (o : Outcome) (buffer under : List ℕ) (held : Held) (image : List ℕ) {left out : List ℕ} {gone : Gone} {count : ℕ}
     → Gapped o buffer gone left → Lined under (goneLine gone left) count out
     → Stepped under (lineStep o (benchOf held image buffer))
-    (record { count = count; held = record { card = gone .card; clock = held .clock; room = held .room }; more = true }) left out
+    (record { count = count; held = record { profile = held .profile; card = gone .card; clock = held .clock; room = held .room }; more = true }) left out
 unfolding lineStep goneBy goneLine leftBy heldOf benchOf withCard withBuffer
 gap-stepped o buffer under held image g l =
     let text = laidIn buffer (o .reply) in
@@ -120,14 +136,14 @@ module _ (under : List ℕ) {r : Left} where
   unfolding benchOf heldOf
   last-stepped text held image buffer p = (p, refl)
 
-  pub silent-stepped : (b : Bench) → r ≡ silentLeft (b .card) (b .clock) (b .room) → Stepped under (silentStep b) r (b .buffer) under
+  pub silent-stepped : (b : Bench) → r ≡ silentLeft (b .profile) (b .card) (b .clock) (b .room) → Stepped under (silentStep b) r (b .buffer) under
   unfolding silentLeft heldOf fitsAt
   silent-stepped b e =
       let fits = le-leb 0 (length under) (omega arith) in
       (rw fits (record { answers = e; left-so = refl }), refl)
 
   -- a call by what it is found to be
-  pub call-stepped : (b : Bench) (octets : List ℕ) (x : Call) {left buffer : List ℕ} {found : Call} → found ≡ callFound octets → found ≡ x
+  pub call-stepped : (b : Bench) (octets : List ℕ) (x : Call) {left buffer : List ℕ} {found : Call} → found ≡ callFound (b .profile) octets → found ≡ x
       → Stepped under (afterCall x b octets) r buffer left → Stepped under (callStep b octets) r buffer left
   unfolding callStep
   call-stepped b octets x e f p = rw (sym e ∙ f) p

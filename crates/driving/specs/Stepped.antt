@@ -8,6 +8,7 @@ use lib.ListN.{length}
 use Rattle.octets.specs.Choice.{if_then_else_}
 use Rattle.octets.specs.Over.{laidIn, Does}
 use Rattle.octets.specs.Calls.{fitsAt}
+use Rattle.profile.specs.declared.Profile.{Profile}
 use Rattle.card.specs.declared.Card.{Card}
 use Rattle.card.specs.declared.Gone.{Gone}
 use Rattle.input.specs.declared.Call.{Call}
@@ -19,10 +20,10 @@ use Rattle.driving.specs.Driven.{Bench, Step}
 
 -- the bench in its parts: what is held by value, and the image and the buffer, which are lent
 unfoldable pub benchOf : Held → List ℕ → List ℕ → Bench
-benchOf held image buffer = record { card = held .card; image = image; clock = held .clock; room = held .room; buffer = buffer }
+benchOf held image buffer = record { profile = held .profile; card = held .card; image = image; clock = held .clock; room = held .room; buffer = buffer }
 
 unfoldable pub heldOf : Bench → Held
-heldOf b = record { card = b .card; clock = b .clock; room = b .room }
+heldOf b = record { profile = b .profile; card = b .card; clock = b .clock; room = b .room }
 
 -- the result of a call that writes a text
 unfoldable pub leftBy : List ℕ → Held → Bool → Left
@@ -38,8 +39,8 @@ abbrev pub Stepped : List ℕ → Step → Left → List ℕ → List ℕ → Ty
 Stepped under s r buffer left = Writes under (s .text) (heldOf (s .bench)) (s .more) r left × (buffer ≡ s .bench .buffer)
 
 -- no text, and another call may follow
-unfoldable pub silentLeft : Card → List ℕ → ℕ → Left
-silentLeft card clock room = leftBy [] (record { card = card; clock = clock; room = room }) true
+unfoldable pub silentLeft : Profile → Card → List ℕ → ℕ → Left
+silentLeft profile card clock room = leftBy [] (record { profile = profile; card = card; clock = clock; room = room }) true
 
 -- the line of what a gap returned
 unfoldable pub goneLine : Gone → List ℕ → List ℕ
@@ -54,6 +55,8 @@ isImage call.Wrong = false
 isImage call.Clock = false
 isImage call.Room = false
 isImage call.Octets = false
+isImage call.ElevenBits = false
+isImage call.Characters = false
 isImage call.Gap = false
 
 -- `ImageAfter call space had image r left`: the image of an I that fits stands in the first octets of its space, and all its octets count; else

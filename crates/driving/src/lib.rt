@@ -2,10 +2,11 @@
 ghost use mathlib.Core.Bool.{false};
 ghost use mathlib.Core.Path.{_≡_};
 ghost use lib.ListN.{length, take};
-ghost use Rattle.card.specs.State.{withOctets};
+ghost use Rattle.profile.specs.declared.Profile.the-variants.{Eleven};
+ghost use Rattle.card.specs.State.{withCharacters, withOctets};
 ghost use Rattle.card.specs.Gap.{gapped, Gapped};
 ghost use Rattle.input.specs.declared.Call.the-variants as call;
-ghost use Rattle.input.specs.Input.{callFound};
+ghost use Rattle.input.specs.Input.{charactersIn, callFound};
 ghost use Rattle.printing.specs.Line.{Lined};
 ghost use Rattle.driving.specs.Driven.{atStart, imageOf, gapStep, callStep};
 ghost use Rattle.driving.specs.Stepped.{benchOf, heldOf, goneLine, silentLeft, Writes, Stepped, ImageAfter};
@@ -13,9 +14,12 @@ use card::Card;
 use card::Gone;
 use frame::Judged;
 use input::Call;
+use profile::Character;
+use profile::Profile;
 
-// What is held between two calls: the card, the clock, how many octets of the reply buffer a gap is lent.
+// What is held between two calls: the profile, the card, the clock, how many octets of the reply buffer a gap is lent.
 pub struct Held {
+    pub profile: Profile,
     pub card: Card,
     pub clock: [u8; 7],
     pub room: u16,
@@ -40,12 +44,17 @@ fn last(out: &mut [u8], text: &[u8], held: Held) -> Left
 }
 
 // No text, and another call may follow.
-fn silent(card: Card, clock: [u8; 7], room: u16) -> Left
-    ensures { λ r. ⌜ r ≡ silentLeft card clock room ⌝ }
+fn silent(profile: Profile, card: Card, clock: [u8; 7], room: u16) -> Left
+    ensures { λ r. ⌜ r ≡ silentLeft profile card clock room ⌝ }
 {
     Left {
         count: 0,
-        held: Held { card, clock, room },
+        held: Held {
+            profile,
+            card,
+            clock,
+            room,
+        },
         more: true,
     }
 }
@@ -59,6 +68,22 @@ fn octet_by_octet(card: Card, octets: &[u8]) -> Card
     while i < octets.len() {
         next = next.octet(octets[i]);
         i += 1;
+    }
+    next
+}
+
+// Characters come in one by one: pairs of an octet and its parity bit.
+fn pair_by_pair(card: Card, pairs: &[u8]) -> Card
+    ensures { λ r. ⌜ r ≡ withCharacters Eleven card (charactersIn (now (pairs .entry))) ⌝ }
+{
+    let mut next = card;
+    let mut i = 0;
+    while i + 1 < pairs.len() {
+        next = next.character(Character {
+            octet: pairs[i],
+            parity: pairs[i + 1] == 1,
+        });
+        i += 2;
     }
     next
 }
@@ -95,6 +120,7 @@ fn line(out: &mut [u8], gone: Gone, buffer: &[u8]) -> usize
 fn gap(out: &mut [u8], held: Held, image: &[u8], buffer: &mut [u8]) -> Left
     ensures { λ r. ⌜ Stepped (now (out .entry)) (gapStep (benchOf held (now (image .entry)) (now (buffer .entry)))) r (now (buffer .exit)) (now (out .exit)) ⌝ }
 {
+    let profile = held.profile;
     let card = held.card;
     let clock = held.clock;
     let gone = lent(card, image, clock, buffer, held.room as usize);
@@ -102,6 +128,7 @@ fn gap(out: &mut [u8], held: Held, image: &[u8], buffer: &mut [u8]) -> Left
     Left {
         count: line(out, gone, buffer),
         held: Held {
+            profile,
             card: after,
             clock,
             room: held.room,
@@ -116,18 +143,28 @@ pub fn step(out: &mut [u8], held: Held, image: &[u8], buffer: &mut [u8], call: &
     ensures { λ r. ⌜ Stepped (now (out .entry)) (callStep (benchOf held (now (image .entry)) (now (buffer .entry))) (now (call .entry))) r (now (buffer .exit))
         (now (out .exit)) ⌝ }
 {
+    let profile = held.profile;
     let card = held.card;
     let clock = held.clock;
     let room = held.room;
-    match input::judge_call(call) {
+    match input::judge_call(profile, call) {
         Call::End => last(out, b"", held),
         Call::Cut => last(out, b"cut\n", held),
         Call::Wrong => last(out, b"call\n", held),
-        Call::Image => silent(card, clock, room),
-        Call::Clock => silent(card, input::clock_at(call, 1), room),
-        Call::Room => silent(card, clock, input::length_of_2(call, 1)),
+        Call::Image => silent(profile, card, clock, room),
+        Call::Clock => silent(profile, card, input::clock_at(call, 1), room),
+        Call::Room => silent(profile, card, clock, input::length_of_2(call, 1)),
+        // With eleven bits each octet has its right parity bit, and is taken as it is without.
         Call::Octets => silent(
+            profile,
             octet_by_octet(card, octets::part(call, 3, call.len())),
+            clock,
+            room,
+        ),
+        Call::ElevenBits => silent(Profile::Eleven, Card::power_on(), clock, room),
+        Call::Characters => silent(
+            profile,
+            pair_by_pair(card, octets::part(call, 3, call.len())),
             clock,
             room,
         ),
@@ -146,10 +183,10 @@ fn stand(space: &mut [u8], had: usize, image: &[u8]) -> usize
 }
 
 // The image lent after a call: how many of its space's octets count. That of an I takes the place of the one before.
-pub fn image_after(space: &mut [u8], had: usize, call: &[u8]) -> usize
-    ensures { λ r. ⌜ ImageAfter (callFound (now (call .entry))) (now (space .entry)) had (imageOf (now (call .entry))) r (now (space .exit)) ⌝ }
+pub fn image_after(profile: Profile, space: &mut [u8], had: usize, call: &[u8]) -> usize
+    ensures { λ r. ⌜ ImageAfter (callFound profile (now (call .entry))) (now (space .entry)) had (imageOf (now (call .entry))) r (now (space .exit)) ⌝ }
 {
-    match input::judge_call(call) {
+    match input::judge_call(profile, call) {
         Call::Image => stand(space, had, octets::part(call, 4, call.len())),
         _ => had,
     }
@@ -160,6 +197,7 @@ pub fn start() -> Held
     ensures { λ r. ⌜ r ≡ heldOf atStart ⌝ }
 {
     Held {
+        profile: Profile::Ten,
         card: Card::power_on(),
         clock: [0; 7],
         room: Judged::LONGEST as u16,

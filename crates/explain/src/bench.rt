@@ -6,6 +6,7 @@ use crate::cards::Met;
 use crate::frames;
 use crate::images;
 use crate::labels;
+use crate::lines;
 use crate::messages;
 use crate::requests::Argument;
 use crate::requests::Request;
@@ -17,6 +18,8 @@ use card::Gone;
 use deeds::Pending;
 use link::Link;
 use message::Request as Asked;
+use profile::Character;
+use profile::Profile;
 use rules::Session;
 
 // What is lent to the card with every gap: how many octets the image has, the clock, how many octets the reply buffer has.
@@ -28,12 +31,14 @@ pub struct Lent {
 
 pub struct Bench {
     pub card: Card,
+    pub profile: Profile,
     pub lent: Lent,
 }
 
 pub(crate) fn start() -> Bench {
     Bench {
         card: Card::power_on(),
+        profile: Profile::Ten,
         lent: Lent {
             image: 0,
             clock: [0; 7],
@@ -94,13 +99,7 @@ fn lend_book(lent: Lent, which: u8, given: &[u8], shelf: &mut [u8]) -> Lent
     lent
 }
 
-// ---- what the card is given ----
-
-// The card as it is now, with its state said.
-fn showing(card: Card) -> Card {
-    cards::state(card);
-    card
-}
+// ---- the card as it is to be ----
 
 fn session_of(argument: Argument) -> Session {
     if argument.count == 0 {
@@ -127,9 +126,67 @@ fn in_session(card: Card, session: Session, image: &[u8]) -> Card {
     }
 }
 
+// Another profile is another card: one profile serves for all that a card is given.
+fn set_up(card: Card, request: Request, image: &[u8]) -> Card {
+    let word = request.word;
+    let argument = request.argument;
+    match word {
+        Word::PowerOn => Card::power_on(),
+        Word::Profile => Card::power_on(),
+        Word::Session => in_session(card, session_of(argument), image),
+        _ => card,
+    }
+}
+
+fn profile_of(number: usize) -> Profile {
+    if number == 11 {
+        return Profile::Eleven;
+    }
+    Profile::Ten
+}
+
+fn is_profile(word: Word) -> bool {
+    match word {
+        Word::Profile => true,
+        _ => false,
+    }
+}
+
+fn profile_after(profile: Profile, request: Request) -> Profile {
+    let word = request.word;
+    let argument = request.argument;
+    match word {
+        Word::Profile => profile_of(argument.number),
+        _ => profile,
+    }
+}
+
+// ---- what the card is given ----
+
 fn collecting(card: Card, given: &[u8]) -> Card {
     words::octets_in(given.len() as u64);
     card.octets(given)
+}
+
+// The character at a place: an octet, and its parity bit behind it.
+fn character_at(given: &[u8], at: usize) -> Character {
+    Character {
+        octet: octets::octet_at(given, at),
+        parity: octets::octet_at(given, lines::one_more(at)) == 1,
+    }
+}
+
+fn collecting_characters(card: Card, given: &[u8]) -> Card {
+    let mut now = card;
+    let mut at = 0;
+    words::octets_in((given.len() / 2) as u64);
+    while at < given.len() {
+        let character = character_at(given, at);
+        cards::character((at / 2 + 1) as u64, character);
+        now = now.character(character);
+        at += 2;
+    }
+    now
 }
 
 fn gap(card: Card, lent: Lent, image: &[u8], buffer: &mut [u8]) -> Gone {
@@ -184,25 +241,14 @@ fn collect(card: Card, lent: Lent, image: &[u8], shelf: &[u8]) -> Card {
     run(card, lent, &frame, Met::Unknown, image, shelf)
 }
 
-fn give(
-    card: Card,
-    lent: Lent,
-    request: Request,
-    given: &[u8],
-    image: &[u8],
-    shelf: &[u8],
-) -> Card {
-    let word = request.word;
-    let argument = request.argument;
+// A gap is a run to which no octets are added.
+fn give(card: Card, lent: Lent, word: Word, given: &[u8], image: &[u8], shelf: &[u8]) -> Card {
     match word {
-        Word::PowerOn => showing(Card::power_on()),
-        Word::Session => showing(in_session(card, session_of(argument), image)),
         Word::Octets => collecting(card, given),
-        Word::Gap => run(card, lent, given, Met::Unknown, image, shelf),
-        Word::Run => run(card, lent, given, Met::Unknown, image, shelf),
+        Word::Characters => collecting_characters(card, given),
         Word::Ask => ask(card, lent, given, image, shelf),
         Word::Collect => collect(card, lent, image, shelf),
-        _ => showing(card),
+        _ => run(card, lent, given, Met::Unknown, image, shelf),
     }
 }
 
@@ -223,6 +269,7 @@ fn tell(word: Word, given: &[u8], shelf: &[u8]) {
 enum About {
     Octets,
     Lent,
+    State,
     Card,
 }
 
@@ -238,6 +285,10 @@ fn subject(word: Word) -> About {
         Word::Buffer => About::Lent,
         Word::Book => About::Lent,
         Word::Italian => About::Lent,
+        Word::PowerOn => About::State,
+        Word::Profile => About::State,
+        Word::Session => About::State,
+        Word::State => About::State,
         _ => About::Card,
     }
 }
@@ -249,25 +300,45 @@ fn told(bench: Bench, word: Word, given: &[u8], shelf: &[u8]) -> Bench {
 
 fn lending(bench: Bench, request: Request, given: &[u8], shelf: &mut [u8]) -> Bench {
     let card = bench.card;
+    let profile = bench.profile;
     let lent = bench.lent;
     Bench {
         card,
+        profile,
         lent: lend(lent, request, given, shelf),
     }
 }
 
-fn giving(bench: Bench, request: Request, given: &[u8], shelf: &[u8]) -> Bench {
+// The card as it is now, with its state said.
+fn showing(bench: Bench, request: Request, shelf: &[u8]) -> Bench {
+    let word = request.word;
+    let before = bench.profile;
+    let lent = bench.lent;
+    let profile = profile_after(before, request);
+    let card = set_up(bench.card, request, octets::part(shelf, 0, lent.image));
+    cards::state(card);
+    cards::profile(profile, is_profile(word));
+    Bench {
+        card,
+        profile,
+        lent,
+    }
+}
+
+fn giving(bench: Bench, word: Word, given: &[u8], shelf: &[u8]) -> Bench {
     let card = bench.card;
+    let profile = bench.profile;
     let lent = bench.lent;
     Bench {
         card: give(
             card,
             lent,
-            request,
+            word,
             given,
             octets::part(shelf, 0, lent.image),
             shelf,
         ),
+        profile,
         lent,
     }
 }
@@ -278,6 +349,7 @@ pub(crate) fn obey(bench: Bench, request: Request, given: &[u8], shelf: &mut [u8
     match subject(word) {
         About::Octets => told(bench, word, given, shelf),
         About::Lent => lending(bench, request, given, shelf),
-        About::Card => giving(bench, request, given, shelf),
+        About::State => showing(bench, request, shelf),
+        About::Card => giving(bench, word, given, shelf),
     }
 }

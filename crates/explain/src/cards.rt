@@ -11,6 +11,8 @@ use fields::IdentityFound;
 use frame::Control;
 use frame::Reply;
 use frame::Service;
+use profile::Character;
+use profile::Profile;
 use rules::Rule;
 use rules::Session;
 
@@ -161,11 +163,11 @@ fn waits(waiting: Waiting) {
     }
 }
 
-// The place of whether the link is reset.
-fn reset_place(reset: bool) -> u8
+// A bit, which is also the place of what it says among the words.
+fn bit_of(set: bool) -> u8
     ensures { λ r. ⌜ r < 2 ⌝ }
 {
-    if reset {
+    if set {
         return 1;
     }
     0
@@ -176,8 +178,29 @@ pub(crate) fn state(card: Card) {
     let open = link.session;
     let pending = link.pending;
     let waiting = pending.waiting;
-    words::link(reset_place(link.reset), link.fcb);
+    words::link(bit_of(link.reset), link.fcb);
     session(open);
     waits(waiting);
     words::damaged(card.damaged);
+}
+
+// The profile, where it is eleven bits or is to be `named`: ten bits go without saying.
+pub(crate) fn profile(profile: Profile, named: bool) {
+    match profile {
+        Profile::Eleven => words::profile(1),
+        Profile::Ten => {
+            if named {
+                words::profile(0);
+            }
+        }
+    }
+}
+
+// A character that comes in, by its number from 1: nothing is said of a right parity bit.
+pub(crate) fn character(number: u64, character: Character) {
+    if character.is_right() {
+        return;
+    }
+    voice::line(2);
+    words::wrong_parity(number, character.octet, bit_of(character.parity));
 }

@@ -38,9 +38,9 @@ fn place(form: Form, control: u8) -> u8
     }
 }
 
-// The number of a gap, which is 0 to 9.
+// The number of a gap, which is 0 to 10.
 pub(crate) fn number(number: u8) {
-    words::number(number % 10);
+    words::number(number % 11);
 }
 
 // A reply's control field. A line of its own says that it is a reply, `named`; below the reply's octets that would be said twice.

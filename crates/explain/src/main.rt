@@ -91,14 +91,14 @@ fn request_after(
 // All words that begin a request.
 fn all_words() {
     let mut n = 0;
-    while n < 18 {
+    while n < 20 {
         words::request(n);
         n += 1;
     }
 }
 
 fn expected(place: u8)
-    requires { ⌜ place < 14 ⌝ }
+    requires { ⌜ place < 18 ⌝ }
 {
     words::expected(place);
     if place == 0 {
@@ -115,7 +115,7 @@ fn complain(request: Request) {
     } else {
         words::column(request.line, argument.column as u64);
     }
-    if place < 14 {
+    if place < 18 {
         expected(place);
     }
     voice::line(0);
@@ -192,10 +192,13 @@ fn explaining(
     shelf: &mut [u8],
 ) -> Desk {
     let window = desk.window;
-    let request = request_after(desk.request, number, space, window, given);
+    let bench = desk.bench;
+    let profile = bench.profile;
+    let read = request_after(desk.request, number, space, window, given);
+    let request = requests::in_profile(read, profile);
     let line = first_line(stream::seen(space, window));
     Desk {
-        bench: done(desk.bench, request, line, given, shelf),
+        bench: done(bench, request, line, given, shelf),
         request,
         window: behind_line(space, window),
         going: requests::is_going(request),

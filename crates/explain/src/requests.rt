@@ -3,6 +3,7 @@ ghost use Prim.Native.Nat.{_<_};
 use crate::lines;
 use crate::lines::Sought;
 use crate::words;
+use profile::Profile;
 
 pub enum Word {
     Label,
@@ -23,6 +24,8 @@ pub enum Word {
     Book,
     Italian,
     Event,
+    Profile,
+    Characters,
     Unknown,
 }
 
@@ -42,6 +45,10 @@ pub enum Matter {
     EventSize,
     TooLong,
     Unended,
+    ProfileNumber,
+    ParityBit,
+    Unpaired,
+    TenBits,
     Fine,
 }
 
@@ -96,13 +103,15 @@ fn word_at(n: u8) -> Word {
         15 => Word::Book,
         16 => Word::Italian,
         17 => Word::Event,
+        18 => Word::Profile,
+        19 => Word::Characters,
         _ => Word::Unknown,
     }
 }
 
 fn word_of(text: &[u8]) -> Word {
     let mut n = 0;
-    while n < 18 {
+    while n < 20 {
         if words::is_request(text, n) {
             return word_at(n);
         }
@@ -167,16 +176,30 @@ fn octet(high: u8, low: u8) -> u8 {
     0
 }
 
+// The largest octet that may stand behind so many others. Every second octet of characters is a parity bit.
+fn largest(word: Word, count: usize) -> u8 {
+    match word {
+        Word::Characters => match count % 2 {
+            1 => 1,
+            _ => 255,
+        },
+        _ => 255,
+    }
+}
+
 // A pair is read.
-fn pair(argument: Argument, octet: u8, column: usize, given: &mut [u8]) -> Argument {
+fn pair(word: Word, argument: Argument, octet: u8, column: usize, given: &mut [u8]) -> Argument {
     let count = argument.count;
+    if largest(word, count) < octet {
+        return wrong(argument, Matter::ParityBit, column);
+    }
     if octets::put(given, count, &[octet]) {
         return with(argument, lines::one_more(count), 0, NONE);
     }
     wrong(argument, Matter::TooMany, column)
 }
 
-fn in_hex(argument: Argument, c: u8, column: usize, given: &mut [u8]) -> Argument {
+fn in_hex(word: Word, argument: Argument, c: u8, column: usize, given: &mut [u8]) -> Argument {
     let low = figure(c);
     let high = argument.open;
     if lines::is_blank(c) {
@@ -189,38 +212,38 @@ fn in_hex(argument: Argument, c: u8, column: usize, given: &mut [u8]) -> Argumen
         return wrong(argument, Matter::Figure, column);
     }
     if high < NONE {
-        return pair(argument, octet(high, low), column, given);
+        return pair(word, argument, octet(high, low), column, given);
     }
     with(argument, argument.count, 0, low)
 }
 
-// A number with one figure more.
-fn longer(argument: Argument, figure: u8, column: usize) -> Argument {
+// A number with one figure more, and what is the matter where it is too large.
+fn longer(argument: Argument, figure: u8, column: usize, matter: Matter) -> Argument {
     let before = argument.number;
     if 6553 < before {
-        return wrong(argument, Matter::Number, column);
+        return wrong(argument, matter, column);
     }
     let number = before * 10 + figure as usize;
     if 65535 < number {
-        return wrong(argument, Matter::Number, column);
+        return wrong(argument, matter, column);
     }
     with(argument, 1, number, figure)
 }
 
-fn in_decimal(argument: Argument, c: u8, column: usize) -> Argument {
+fn in_decimal(argument: Argument, c: u8, column: usize, matter: Matter) -> Argument {
     let next = figure(c);
     if lines::is_blank(c) {
         return with(argument, argument.count, argument.number, NONE);
     }
     if 9 < next {
-        return wrong(argument, Matter::Number, column);
+        return wrong(argument, matter, column);
     }
     if argument.open == NONE {
         if 0 < argument.count {
-            return wrong(argument, Matter::Number, column);
+            return wrong(argument, matter, column);
         }
     }
-    longer(argument, next, column)
+    longer(argument, next, column, matter)
 }
 
 fn behind(argument: Argument, c: u8, column: usize) -> Argument {
@@ -232,14 +255,15 @@ fn behind(argument: Argument, c: u8, column: usize) -> Argument {
 
 fn further(word: Word, argument: Argument, c: u8, column: usize, given: &mut [u8]) -> Argument {
     match word {
-        Word::Buffer => in_decimal(argument, c, column),
-        Word::Session => in_decimal(argument, c, column),
+        Word::Buffer => in_decimal(argument, c, column, Matter::Number),
+        Word::Session => in_decimal(argument, c, column, Matter::Number),
+        Word::Profile => in_decimal(argument, c, column, Matter::ProfileNumber),
         Word::PowerOn => behind(argument, c, column),
         Word::Gap => behind(argument, c, column),
         Word::Collect => behind(argument, c, column),
         Word::State => behind(argument, c, column),
         Word::Unknown => wrong(argument, Matter::Word, 0),
-        _ => in_hex(argument, c, column, given),
+        _ => in_hex(word, argument, c, column, given),
     }
 }
 
@@ -284,8 +308,8 @@ fn is_from_to(count: usize, least: usize, most: usize) -> bool {
     count <= most
 }
 
-// What is the matter with so many octets behind a word, or with no number.
-fn size_matter(word: Word, count: usize) -> Matter {
+// What is the matter with so many octets behind a word, or with a number or none.
+fn size_matter(word: Word, count: usize, number: usize) -> Matter {
     match word {
         Word::Label => unless(is_either(count, 5, 7), Matter::LabelSize),
         Word::Compare => unless(is_either(count, 10, 14), Matter::CompareSize),
@@ -294,18 +318,24 @@ fn size_matter(word: Word, count: usize) -> Matter {
         Word::Ask => unless(is_from_to(count, 1, 252), Matter::AskSize),
         Word::Event => unless(count == 2, Matter::EventSize),
         Word::Buffer => unless(count == 1, Matter::Number),
+        Word::Profile => unless(is_either(number, 10, 11), Matter::ProfileNumber),
+        Word::Characters => unless(count % 2 == 0, Matter::Unpaired),
         _ => Matter::Fine,
     }
 }
 
-// A request that does not go on has to have the right number of octets.
+// A request that does not go on has to have the right number of octets, or the right number.
 fn sized(word: Word, argument: Argument, goes_on: bool) -> Argument {
     let matter = argument.matter;
     if goes_on {
         return argument;
     }
     if is_fine(matter) {
-        return wrong(argument, size_matter(word, argument.count), 0);
+        return wrong(
+            argument,
+            size_matter(word, argument.count, argument.number),
+            0,
+        );
     }
     argument
 }
@@ -367,7 +397,7 @@ fn passing(request: Request, step: Step) -> Request {
     }
 }
 
-// A request that is dropped, since its line is too long or the input ended before it did.
+// A request that is dropped, since its line is too long, the input ended before it did, or the profile has none.
 fn dropped(request: Request, matter: Matter, line: u64) -> Request {
     let word = request.word;
     let argument = request.argument;
@@ -377,6 +407,30 @@ fn dropped(request: Request, matter: Matter, line: u64) -> Request {
         line,
         goes_on: false,
         step: Step::Complain,
+    }
+}
+
+// Whether a profile has such a request: without parity bits there are no characters.
+fn is_of(word: Word, profile: Profile) -> bool {
+    match word {
+        Word::Characters => match profile {
+            Profile::Ten => false,
+            Profile::Eleven => true,
+        },
+        _ => true,
+    }
+}
+
+// What would be carried out is dropped where the profile has no such request.
+pub(crate) fn in_profile(request: Request, profile: Profile) -> Request {
+    let word = request.word;
+    let step = request.step;
+    if is_of(word, profile) {
+        return request;
+    }
+    match step {
+        Step::Carry => dropped(request, Matter::TenBits, request.line),
+        _ => request,
     }
 }
 
@@ -420,9 +474,9 @@ pub(crate) fn with_end(request: Request) -> Request {
     passing(request, Step::End)
 }
 
-// The place of what is expected among the words; 14 where nothing else is.
+// The place of what is expected among the words; 18 where nothing else is.
 pub(crate) fn place(matter: Matter) -> u8
-    ensures { λ r. ⌜ r < 15 ⌝ }
+    ensures { λ r. ⌜ r < 19 ⌝ }
 {
     match matter {
         Matter::Word => 0,
@@ -439,7 +493,11 @@ pub(crate) fn place(matter: Matter) -> u8
         Matter::EventSize => 11,
         Matter::TooLong => 12,
         Matter::Unended => 13,
-        Matter::Fine => 14,
+        Matter::ProfileNumber => 14,
+        Matter::ParityBit => 15,
+        Matter::Unpaired => 16,
+        Matter::TenBits => 17,
+        Matter::Fine => 18,
     }
 }
 

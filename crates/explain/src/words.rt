@@ -11,18 +11,18 @@ use crate::voice::word;
 
 // ---- requests, and what is the matter with them ----
 
-const REQUESTS: [u8; 116] =
-    *b"label;compare;frame;message;image;clock;buffer;power-on;session;octets;gap;run;ask;collect;state;book;italian;event;";
+const REQUESTS: [u8; 135] =
+    *b"label;compare;frame;message;image;clock;buffer;power-on;session;octets;gap;run;ask;collect;state;book;italian;event;profile;characters;";
 
 // Whether a text is the request's word, in large letters or small.
 pub(crate) fn is_request(text: &[u8], n: u8) -> bool
-    requires { ⌜ n < 18 ⌝ }
+    requires { ⌜ n < 20 ⌝ }
 {
     lines::is(text, nth(&REQUESTS, n))
 }
 
 pub(crate) fn request(n: u8)
-    requires { ⌜ n < 18 ⌝ }
+    requires { ⌜ n < 20 ⌝ }
 {
     naming(b" *", [0; 6], &REQUESTS, n)
 }
@@ -37,10 +37,10 @@ pub(crate) fn column(line: u64, column: u64) {
 }
 
 pub(crate) fn expected(what: u8)
-    requires { ⌜ what < 14 ⌝ }
+    requires { ⌜ what < 18 ⌝ }
 {
     word(
-        b"one of these words is expected:;a pair of hex figures is expected;the second figure of a pair is expected;65600 octets at most are expected;a number from 0 to 65535 is expected;nothing is expected behind this word;5 or 7 octets are expected;10 or 14 octets are expected;7 octets are expected;6 to 252 octets are expected;1 to 252 octets are expected;2 octets are expected;a line of 262144 octets at most is expected;the request is expected to go on;",
+        b"one of these words is expected:;a pair of hex figures is expected;the second figure of a pair is expected;65600 octets at most are expected;a number from 0 to 65535 is expected;nothing is expected behind this word;5 or 7 octets are expected;10 or 14 octets are expected;7 octets are expected;6 to 252 octets are expected;1 to 252 octets are expected;2 octets are expected;a line of 262144 octets at most is expected;the request is expected to go on;10 or 11 is expected;a parity bit is expected, 00 or 01;a parity bit is expected behind every octet;profile 11 is expected before this word;",
         what,
     )
 }
@@ -115,12 +115,12 @@ pub(crate) fn which(which: u8)
 
 // The number that a gap answers.
 pub(crate) fn number(number: u8)
-    requires { ⌜ number < 10 ⌝ }
+    requires { ⌜ number < 11 ⌝ }
 {
     naming(
         b"number %: *",
         [number as u64, 0, 0, 0, 0, 0],
-        b"frame answered;empty run;run over 261 octets;not the form of a frame;checksum wrong;other link address;control field not offered;user data or collection before the first reset;image not sound;reply buffer under 261 octets;",
+        b"frame answered;empty run;run over 261 octets;not the form of a frame;checksum wrong;other link address;control field not offered;user data or collection before the first reset;image not sound;reply buffer under 261 octets;a parity bit wrong;",
         number,
     )
 }
@@ -429,6 +429,17 @@ pub(crate) fn octets_in(many: u64) {
     phrase(b"octets in: %", [many, 0, 0, 0, 0, 0])
 }
 
+// A character by its number from 1, its octet, and the parity bit that came with it, which is wrong.
+pub(crate) fn wrong_parity(number: u64, octet: u8, came: u8)
+    requires { ⌜ came < 2 ⌝ }
+{
+    phrase_of(
+        b"character %: ~ has the parity bit 0, and 1 is right;character %: ~ has the parity bit 1, and 0 is right;",
+        came,
+        [number, octet as u64, 0, 0, 0, 0],
+    )
+}
+
 // 0 none, 1 the clock, 2 the dates.
 pub(crate) fn ordered(what: u8)
     requires { ⌜ what < 3 ⌝ }
@@ -488,4 +499,11 @@ pub(crate) fn waits(what: u8, number: u64)
 
 pub(crate) fn damaged(damaged: u16) {
     phrase(b", damaged runs %", [damaged as u64, 0, 0, 0, 0, 0])
+}
+
+// 0 ten bits, 1 eleven.
+pub(crate) fn profile(profile: u8)
+    requires { ⌜ profile < 2 ⌝ }
+{
+    word(b", ten-bit profile;, eleven-bit profile;", profile)
 }

@@ -14,7 +14,7 @@ use Rattle.octets.specs.Sum.{checksum}
 use Rattle.octets.proofs.Choice.{refuted}
 use Rattle.octets.proofs.Conditions.{holds-at, holds-none, holds-more}
 use Rattle.frame.specs.declared.Fault.{Fault}
-use Rattle.frame.specs.declared.Fault.the-variants.{Empty, Long, Malformed, Spoiled}
+use Rattle.frame.specs.declared.Fault.the-variants.{Empty, Long, Parity, Malformed, Spoiled}
 use Rattle.frame.specs.Family.{Family}
 use Rattle.frame.specs.Frame.{Frame, faultNumber, Verdict, refused, sound, covered, sumRight, fixedForm, variableForm, startOf, saidFixed, saidVariable, said, judge}
 
@@ -22,6 +22,7 @@ use Rattle.frame.specs.Frame.{Frame, faultNumber, Verdict, refused, soun
 pub fault-some : (fault : Fault) → faultNumber fault ≡ 0 → ⊥
 fault-some Empty e = omega arith
 fault-some Long e = omega arith
+fault-some Parity e = omega arith
 fault-some Malformed e = omega arith
 fault-some Spoiled e = omega arith
 
@@ -130,7 +131,7 @@ pub data Sound (k : Family) (run : List ℕ) (f : Frame) : Type 0 where
   as-fixed : FixedRun k run → sumRight 1 run ≡ true → f ≡ saidFixed k (covered 1 run) → Sound k run f
   as-variable : VariableRun k run → sumRight 4 run ≡ true → f ≡ saidVariable k (covered 4 run) → Sound k run f
 
-never : {why : Fault} {f : Frame} → refused why ≡ sound f → ⊥
+pub never : {why : Fault} {f : Frame} → refused why ≡ sound f → ⊥
 never e = let z : _≡_ {A = ℕ} 0 1 = cc in omega arith
 
 picked : (t : Bool) (x f : Frame) → (if t then sound x else refused Spoiled) ≡ sound f → (t ≡ true) × (f ≡ x)

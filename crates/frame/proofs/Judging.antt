@@ -18,7 +18,7 @@ use Rattle.address.specs.declared.LinkAddress.{LinkAddress}
 use Rattle.frame.specs.declared.Judged.{Judged}
 use Rattle.frame.specs.declared.Judged.the-variants.{Faulty, Fixed, Variable}
 use Rattle.frame.specs.declared.Fault.{Fault}
-use Rattle.frame.specs.declared.Fault.the-variants.{Empty, Long, Malformed, Spoiled}
+use Rattle.frame.specs.declared.Fault.the-variants.{Empty, Long, Parity, Malformed, Spoiled}
 use Rattle.frame.specs.Family.{sapr}
 use Rattle.frame.specs.Frame.{Frame, fixed, variable, Verdict, refused, sound, covered, sumRight, fixedForm, variableForm, saidFixed, saidVariable, judge}
 use Rattle.frame.specs.Calls.{verdictSays, judgedSays, userPart}
@@ -53,6 +53,7 @@ back : Answer → Judged
 back x =
     if eqb (x .number) 1 then Faulty Empty else
     if eqb (x .number) 2 then Faulty Long else
+    if eqb (x .number) 10 then Faulty Parity else
     if eqb (x .number) 3 then Faulty Malformed else
     if eqb (x .number) 4 then Faulty Spoiled else
     if eqb (getD (x .values) 0 0) 0x10 then Fixed (getD (x .values) 1 0) (record { 0 = getD (x .values) 2 0 }) else
@@ -62,6 +63,7 @@ judged-back : (x : Judged) → back (judgedSays x) ≡ x
 unfolding back
 judged-back (Faulty Empty) = refl
 judged-back (Faulty Long) = refl
+judged-back (Faulty Parity) = refl
 judged-back (Faulty Malformed) = refl
 judged-back (Faulty Spoiled) = refl
 judged-back (Fixed c link) = refl

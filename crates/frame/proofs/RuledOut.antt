@@ -26,7 +26,7 @@ use Rattle.frame.specs.declared.Service.the-variants.{Reset, UserData, S
 use Rattle.frame.specs.declared.Asked.{Asked}
 use Rattle.frame.specs.declared.Asked.the-variants.{Is, NotOffered}
 use Rattle.frame.specs.declared.Fault.{Fault}
-use Rattle.frame.specs.declared.Fault.the-variants.{Empty, Long, Malformed, Spoiled}
+use Rattle.frame.specs.declared.Fault.the-variants.{Empty, Long, Parity, Malformed, Spoiled}
 use Rattle.frame.specs.declared.Judged.the-variants.{Faulty, Fixed, Variable}
 use Rattle.frame.specs.declared.Control.{Control}
 use Rattle.frame.specs.declared.Control.the-variants as control
@@ -181,10 +181,15 @@ module _ (κs : Lfts 0) where
   fault-number-spoiled : RuledOut (fault-number.Post κs) (Spoiled, tt) 3
   fault-number-spoiled s p = omega (arith, p)
 
+  -- a wrong parity bit called 3, whose effects it has
+  fault-number-parity : RuledOut (fault-number.Post κs) (Parity, tt) 3
+  fault-number-parity s p = omega (arith, p)
+
   -- any fault called 0, the number of a sound frame
   fault-number-sound : (fault : Fault) → RuledOut (fault-number.Post κs) (fault, tt) 0
   fault-number-sound Empty s p = omega (arith, p)
   fault-number-sound Long s p = omega (arith, p)
+  fault-number-sound Parity s p = omega (arith, p)
   fault-number-sound Malformed s p = omega (arith, p)
   fault-number-sound Spoiled s p = omega (arith, p)
 

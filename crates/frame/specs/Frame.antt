@@ -11,7 +11,7 @@ use Rattle.octets.specs.Numbers.{lowFirst, lowOctets}
 use Rattle.octets.specs.Sum.{checksum}
 use Rattle.octets.specs.First.{When, _⇒_▸_, firstOf_else_}
 use Rattle.frame.specs.declared.Fault.{Fault}
-use Rattle.frame.specs.declared.Fault.the-variants.{Empty, Long, Malformed, Spoiled}
+use Rattle.frame.specs.declared.Fault.the-variants.{Empty, Long, Parity, Malformed, Spoiled}
 use Rattle.frame.specs.Family.{Family}
 
 -- what a frame says: control octet, address and, in the variable form, user octets
@@ -19,10 +19,11 @@ pub data Frame : Type 0 where
   fixed : ℕ → ℕ → Frame
   variable : ℕ → ℕ → List ℕ → Frame
 
--- why a run is no sound frame: 1 empty, 2 over 261 octets, 3 not the form of a frame, 4 checksum wrong
+-- why a run is no sound frame: 1 empty, 2 over 261 octets, 10 a parity bit wrong, 3 not the form of a frame, 4 checksum wrong
 abbrev pub faultNumber : Fault → ℕ
 faultNumber Empty = 1
 faultNumber Long = 2
+faultNumber Parity = 10
 faultNumber Malformed = 3
 faultNumber Spoiled = 4
 
@@ -70,7 +71,7 @@ module _ (k : Family) where
   unfoldable pub said : List ℕ → Frame
   said run = if fixedForm run then saidFixed (covered 1 run) else saidVariable (covered 4 run)
 
-  -- 1 empty, 2 over 261 octets, 3 not the form of a frame, 4 checksum wrong
+  -- what the octets decide: 1 empty, 2 over 261 octets, 3 not the form of a frame, 4 checksum wrong
   unfoldable pub judge : List ℕ → Verdict
   judge run =
       firstOf

@@ -14,10 +14,12 @@ ghost use Rattle.frame.specs.Controls.{offered};
 ghost use Rattle.frame.specs.Writing.{replyOctets, plain};
 use octets::Kept;
 
-// Why a run is no sound frame: empty, over 261 octets, not the form of a frame, a wrong checksum.
+// Why a run is no sound frame: empty, over 261 octets, a wrong parity bit, not the form of a frame, a wrong checksum. Octets have no parity bit: `judge`
+// finds none wrong.
 pub enum Fault {
     Empty,
     Long,
+    Parity,
     Malformed,
     Spoiled,
 }
@@ -130,6 +132,7 @@ impl Fault {
         match self {
             Fault::Empty => 1,
             Fault::Long => 2,
+            Fault::Parity => 10,
             Fault::Malformed => 3,
             Fault::Spoiled => 4,
         }

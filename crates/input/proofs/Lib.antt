@@ -1,3 +1,4 @@
+pub mod Pairs
 pub mod Input
 mod Determined
 mod RuledOut

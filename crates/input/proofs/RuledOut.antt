@@ -15,10 +15,12 @@ use Rattle.octets.specs.Over.{over}
 use Rattle.octets.proofs.Choice.{not-both}
 use Rattle.octets.proofs.Outcome.{RuledOut, Place, lent, never}
 use Rattle.image.specs.Image.{soundImage}
+use Rattle.profile.specs.declared.Profile.{Profile}
+use Rattle.profile.specs.declared.Profile.the-variants.{Ten, Eleven}
 use Rattle.input.specs.declared.Head.the-variants as head
 use Rattle.input.specs.declared.Run.the-variants as run
 use Rattle.input.specs.declared.Call.the-variants as call
-use Rattle.input.specs.Input.{lengthOf2, lengthOf3, clockAt, headSize, imageIn, clockIn, headFound, runSize, runFound, callSize, wholeCall, callFound}
+use Rattle.input.specs.Input.{lengthOf2, lengthOf3, clockAt, headSize, imageIn, clockIn, headFound, runSize, runFound, areBits, callSize, wholeCall, callFound}
 use Rattle.input.proofs.length_of_2.Reads as length-of-2
 use Rattle.input.proofs.clock_at.Reads as clock-at
 use Rattle.input.proofs.head_size.Reads as head-size
@@ -159,31 +161,51 @@ module _ (κs : Lfts 1) (x y : Place) where
   judge-run-empty s p = never (cc)
 
   -- a clock call of six octets, whatever they are
-  call-size-clock : (rest : List ℕ) → RuledOut (call-size.Post κs) (lent x (67 ∷ rest), tt) 7
+  call-size-clock : (q : Profile) (rest : List ℕ) → RuledOut (call-size.Post κs) (q, (lent x (67 ∷ rest), tt)) 7
   unfolding callSize
-  call-size-clock rest s p = omega arith
+  call-size-clock q rest s p = omega arith
 
   -- an image of 65,600 octets not read on
-  call-size-image : RuledOut (call-size.Post κs) (lent x (73 ∷ 1 ∷ 0 ∷ 0x40 ∷ []), tt) 4
+  call-size-image : (q : Profile) → RuledOut (call-size.Post κs) (q, (lent x (73 ∷ 1 ∷ 0 ∷ 0x40 ∷ []), tt)) 4
   unfolding callSize lengthOf3 highFirst lowFirst
-  call-size-image s p = omega arith
+  call-size-image q s p = omega arith
 
   -- a cut call called the end
-  judge-call-cut : RuledOut (judge-call.Post κs) (lent x (73 ∷ []), tt) call.End
+  judge-call-cut : (q : Profile) → RuledOut (judge-call.Post κs) (q, (lent x (73 ∷ []), tt)) call.End
   unfolding callFound callSize
-  judge-call-cut s p = never (cc)
+  judge-call-cut q s p = never (cc)
 
   -- the end called a cut call
-  judge-call-end : RuledOut (judge-call.Post κs) (lent x [], tt) call.Cut
+  judge-call-end : (q : Profile) → RuledOut (judge-call.Post κs) (q, (lent x [], tt)) call.Cut
   unfolding callFound
-  judge-call-end s p = never (cc)
+  judge-call-end q s p = never (cc)
 
   -- a reply buffer of 301 octets taken for a call
-  judge-call-room : RuledOut (judge-call.Post κs) (lent x (66 ∷ 1 ∷ 45 ∷ []), tt) call.Room
+  judge-call-room : (q : Profile) → RuledOut (judge-call.Post κs) (q, (lent x (66 ∷ 1 ∷ 45 ∷ []), tt)) call.Room
   unfolding callFound callSize wholeCall lengthOf2 highFirst lowFirst
-  judge-call-room s p = never (cc)
+  judge-call-room q s p = never (cc)
 
   -- an unknown letter taken for a gap
-  judge-call-letter : RuledOut (judge-call.Post κs) (lent x (88 ∷ []), tt) call.Gap
+  judge-call-letter : RuledOut (judge-call.Post κs) (Ten, (lent x (88 ∷ []), tt)) call.Gap
   unfolding callFound callSize wholeCall
   judge-call-letter s p = never (cc)
+
+  -- a P on a ten-bit card taken
+  judge-call-ten : (octet : ℕ) → RuledOut (judge-call.Post κs) (Ten, (lent x (80 ∷ 0 ∷ 1 ∷ octet ∷ 0 ∷ []), tt)) call.Characters
+  unfolding callFound callSize wholeCall
+  judge-call-ten octet s p = never (cc)
+
+  -- a parity bit that is neither 00 nor 01 taken
+  judge-call-bit : (octet : ℕ) → RuledOut (judge-call.Post κs) (Eleven, (lent x (80 ∷ 0 ∷ 1 ∷ octet ∷ 2 ∷ []), tt)) call.Characters
+  unfolding callFound callSize wholeCall areBits lengthOf2 highFirst lowFirst
+  judge-call-bit octet s p = never (cc)
+
+  -- a P that waits for one octet a character
+  call-size-characters : RuledOut (call-size.Post κs) (Eleven, (lent x (80 ∷ 0 ∷ 1 ∷ []), tt)) 4
+  unfolding callSize lengthOf2 highFirst lowFirst
+  call-size-characters s p = omega arith
+
+  -- a P on a ten-bit card waited for
+  call-size-ten : RuledOut (call-size.Post κs) (Ten, (lent x (80 ∷ []), tt)) 3
+  unfolding callSize
+  call-size-ten s p = omega arith

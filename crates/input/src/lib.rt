@@ -1,6 +1,7 @@
 // How the programs' inputs are taken apart: functions on the octets read so far, so that a program only reads, calls and writes.
 ghost use mathlib.Core.Path.{_≡_};
-ghost use Rattle.input.specs.Input.{lengthOf2, lengthOf3, clockAt, headSize, imageIn, clockIn, headFound, runSize, runFound, callSize, wholeCall, callFound};
+ghost use Rattle.input.specs.Input.{lengthOf2, lengthOf3, clockAt, headSize, imageIn, clockIn, headFound, runSize, runFound, takesCharacters, areBits, callSize, wholeCall, callFound};
+use profile::Profile;
 
 // What stands before the runs: another version, input that is cut, an unsound image, or all in order.
 pub enum Head {
@@ -17,7 +18,7 @@ pub enum Run {
     Whole,
 }
 
-// A call of the driving program: none is left, one that is cut, one that is none, or one of the five.
+// A call of the driving program: none is left, one that is cut, one that is none, or one of the seven.
 pub enum Call {
     End,
     Cut,
@@ -26,6 +27,8 @@ pub enum Call {
     Clock,
     Room,
     Octets,
+    ElevenBits,
+    Characters,
     Gap,
 }
 
@@ -127,8 +130,32 @@ pub fn judge_run(read: &[u8]) -> Run
     Run::Whole
 }
 
-pub fn call_size(read: &[u8]) -> usize
-    ensures { λ r. ⌜ r ≡ callSize (now (read .entry)) ⌝ }
+// Whether a letter is that of a P: a call of an eleven-bit card alone.
+fn takes_characters(profile: Profile, letter: u8) -> bool
+    ensures { λ r. ⌜ r ≡ takesCharacters profile letter ⌝ }
+{
+    match profile {
+        Profile::Ten => false,
+        Profile::Eleven => letter == b'P',
+    }
+}
+
+// Whether every second octet is a parity bit.
+fn are_bits(pairs: &[u8]) -> bool
+    ensures { λ r. ⌜ r ≡ areBits (now (pairs .entry)) ⌝ }
+{
+    let mut i = 0;
+    while i + 1 < pairs.len() {
+        if 1 < pairs[i + 1] {
+            return false;
+        }
+        i += 2;
+    }
+    true
+}
+
+pub fn call_size(profile: Profile, read: &[u8]) -> usize
+    ensures { λ r. ⌜ r ≡ callSize profile (now (read .entry)) ⌝ }
 {
     let letter = octets::octet_at(read, 0);
     if letter == b'I' {
@@ -153,11 +180,17 @@ pub fn call_size(read: &[u8]) -> usize
         }
         return 3 + length_of_2(read, 1) as usize;
     }
+    if takes_characters(profile, letter) {
+        if read.len() < 3 {
+            return 3;
+        }
+        return 3 + 2 * length_of_2(read, 1) as usize;
+    }
     1
 }
 
-fn whole_call(read: &[u8]) -> Call
-    ensures { λ r. ⌜ r ≡ wholeCall (now (read .entry)) ⌝ }
+fn whole_call(profile: Profile, read: &[u8]) -> Call
+    ensures { λ r. ⌜ r ≡ wholeCall profile (now (read .entry)) ⌝ }
 {
     let letter = octets::octet_at(read, 0);
     if letter == b'I' {
@@ -178,20 +211,29 @@ fn whole_call(read: &[u8]) -> Call
     if letter == b'O' {
         return Call::Octets;
     }
+    if letter == b'E' {
+        return Call::ElevenBits;
+    }
+    if takes_characters(profile, letter) {
+        if are_bits(octets::part(read, 3, read.len())) {
+            return Call::Characters;
+        }
+        return Call::Wrong;
+    }
     if letter == b'G' {
         return Call::Gap;
     }
     Call::Wrong
 }
 
-pub fn judge_call(read: &[u8]) -> Call
-    ensures { λ r. ⌜ r ≡ callFound (now (read .entry)) ⌝ }
+pub fn judge_call(profile: Profile, read: &[u8]) -> Call
+    ensures { λ r. ⌜ r ≡ callFound profile (now (read .entry)) ⌝ }
 {
     if read.len() < 1 {
         return Call::End;
     }
-    if read.len() < call_size(read) {
+    if read.len() < call_size(profile, read) {
         return Call::Cut;
     }
-    whole_call(read)
+    whole_call(profile, read)
 }

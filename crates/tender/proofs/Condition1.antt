@@ -13,7 +13,7 @@ use Rattle.octets.specs.First.{firstOf_else_}
 use Rattle.octets.specs.declared.Kept.{Kept}
 use Rattle.octets.proofs.Choice.{not-both, if-both}
 use Rattle.frame.specs.declared.Fault.{Fault}
-use Rattle.frame.specs.declared.Fault.the-variants.{Empty, Long, Malformed, Spoiled}
+use Rattle.frame.specs.declared.Fault.the-variants.{Empty, Long, Parity, Malformed, Spoiled}
 use Rattle.frame.specs.declared.Form.the-variants as form
 use Rattle.frame.specs.declared.Service.{Service}
 use Rattle.frame.specs.declared.Service.the-variants.{Reset, UserData, Status, Collection}
@@ -24,6 +24,8 @@ use Rattle.frame.specs.Frame.{Frame, fixed, variable, Verdict, sound, fixedForm
 use Rattle.frame.specs.Controls.{offered, askedBy, user-data, collects}
 use Rattle.fields.specs.Answers.{identityFound}
 use Rattle.image.specs.Image.{soundImage}
+use Rattle.profile.specs.declared.Profile.{Profile}
+use Rattle.profile.specs.Profile.{judgeMarked}
 use Rattle.collector.specs.Collecting.{emptied, isOverfull, runOf, verdictOf}
 use Rattle.collector.specs.Damage.{oneMore}
 use Rattle.link.specs.declared.Link.{Link}
@@ -32,7 +34,7 @@ use Rattle.link.specs.Answering.{answeredBy, noted, carried}
 use Rattle.link.proofs.Answering.{Way, as-reset, as-status, not-reset, repeated, as-nack, carried-out, as-given, nothing-given, way}
 use Rattle.card.specs.declared.Card.{Card}
 use Rattle.card.specs.declared.Examined.{Examined}
-use Rattle.card.specs.State.{withOctet, leftWith, damagedBy}
+use Rattle.card.specs.State.{withCharacter, leftWith, damagedBy}
 use Rattle.card.specs.Examining.{isLink, heard, examinedFrame, examinedVerdict, examined}
 use Rattle.card.specs.Gap.{Outcome, refusal, repliedBy, afterAnswer, afterExamining, gapped}
 use Rattle.tender.specs.Card.{Loan, seenOf, outcomeAt, ourCard}
@@ -51,6 +53,7 @@ fault-ends : (card : Card) (fault : Fault) → Ends card (refusal (faultNumber f
 unfolding damagedBy
 fault-ends card Empty = kept refl refl
 fault-ends card Long = damaged refl refl
+fault-ends card Parity = damaged refl refl
 fault-ends card Malformed = damaged refl refl
 fault-ends card Spoiled = damaged refl refl
 
@@ -103,16 +106,17 @@ module _ (card : Card) (loan : Loan) where
       let most : card .collector .length ≤ 261 = ltb-false _ _ e in
       le-ltb 261 (length run) (rw length-take (omega arith))
 
-  -- 1 to 4, by whether the collector is overfull
+  -- 1, 2, 10, 3 and 4, by whether the collector is overfull
   run-ends : (t : Bool) → isOverfull (card .collector) ≡ t
       → ExaminedEnds (examined (card .collector) (loan .image)) (firstOf drop 2 (refusals card loan) else 0)
-  unfolding examined verdictOf judge afterExamining
+  unfolding examined verdictOf judgeMarked judge afterExamining
   run-ends true e = rw e (fault-ends card Long)
   run-ends false e =
       rw (e, run-fits e)
       (if-both VerdictEnds (eqb (length run) 0) (λ t. fault-ends card Empty) (λ t.
-      if-both VerdictEnds (not (fixedForm sapr run || variableForm sapr run)) (λ t. fault-ends card Malformed) (λ t.
-      if-both VerdictEnds (not (sumRight (startOf sapr run) run)) (λ t. fault-ends card Spoiled) (λ t. frame-ends (said sapr run)))))
+      if-both VerdictEnds (card .collector .marked) (λ u. fault-ends card Parity) (λ u.
+      rw t (if-both VerdictEnds (not (fixedForm sapr run || variableForm sapr run)) (λ t. fault-ends card Malformed) (λ t.
+      if-both VerdictEnds (not (sumRight (startOf sapr run) run)) (λ t. fault-ends card Spoiled) (λ t. frame-ends (said sapr run)))))))
 
   -- 9 and 8
   gap-ends : Ends card (outcomeAt card loan) (firstOf refusals card loan else 0)
@@ -155,15 +159,15 @@ module _ {card : Card} where
   ends-refused loan (gone k d) some = refusal-leaves loan _ _ refl (λ t. absurd (not-both k t)) (λ t. refl)
   ends-refused loan (answers e d) some = absurd (some e)
 
-pub condition-1 : Condition1 ourCard
-unfolding withOctet
-condition-1 =
+pub condition-1 : (p : Profile) → Condition1 (ourCard p)
+unfolding withCharacter
+condition-1 p =
     record {
-      octet-link-kept = λ card octet. refl;
-      octet-uncounted = λ card octet. refl;
+      character-link-kept = λ card x. refl;
+      character-uncounted = λ card x. refl;
       numbers = λ card loan. ends-number (gap-ends card loan);
       refused = λ card loan. ends-refused loan (gap-ends card loan);
     }
 
-pub counted : Counted ourCard
-counted = record { counts = λ card loan. ends-counted (gap-ends card loan) }
+pub counted : (p : Profile) → Counted (ourCard p)
+counted p = record { counts = λ card loan. ends-counted (gap-ends card loan) }

@@ -18,20 +18,22 @@ use Rattle.frame.specs.Frame.{sound, judge, faultNumber}
 use Rattle.frame.specs.Writing.{replyFrame, replyOctets}
 use Rattle.frame.proofs.Frame.{fault-some}
 use Rattle.frame.proofs.RoundTrip.{reply-back, reply-length}
+use Rattle.profile.specs.declared.Profile.{Profile}
+use Rattle.profile.proofs.Judging.{sent-judged}
 use Rattle.collector.specs.Damage.{damages}
 use Rattle.link.specs.Answering.{answered}
 use Rattle.card.specs.declared.Card.{Card}
-use Rattle.card.specs.State.{cardAtPowerOn, withOctet, leftWith, damagedBy}
+use Rattle.card.specs.State.{cardAtPowerOn, withCharacter, leftWith, damagedBy}
 use Rattle.card.specs.Examining.{examined}
 use Rattle.card.proofs.Examining.{as-heard}
 use Rattle.card.specs.Gap.{Outcome, refusal, repliedBy}
 use Rattle.card.proofs.Gap.{End, short, unsound, faulty, other-link, not-offered, not-reset, replied, gap-end}
-use Rattle.tender.specs.Card.{Loan, Heard, outcomeAt, ours, ourCard}
+use Rattle.tender.specs.Card.{Loan, Heard, outcomeAt, ourGap, ours, ourCard}
 use Rattle.tender.specs.Condition2.{Condition2, meantAt, SoundReply, Lent, SoundReplies}
 use Rattle.tender.proofs.Writable.{CanWrite, Ready, AnswersReady, heard-short, power-on-ready, answered-ready}
 
-pub condition-2 : Condition2 ourCard
-condition-2 = record { powers-on = refl; as-defined = λ h. refl; left-as-defined = λ h. refl }
+pub condition-2 : (p : Profile) → Condition2 (ourCard p)
+condition-2 p = record { powers-on = refl; as-defined = λ h. refl; left-as-defined = λ h. refl }
 
 -- with 0 a service was heard, and the reply is what was meant
 record Meets (card : Card) (loan : Loan) (o : Outcome) : Type 0 where
@@ -84,11 +86,11 @@ module _ (card : Card) (loan : Loan) (lent : Lent loan) (ready : Ready (card .li
   gap-told = end-told (gap-end card (loan .image) (loan .clock) (length (loan .buffer)))
 
 -- from power-on on
-ready-always : Invariant ours Lent (λ (card : Card). Ready (card .link))
-unfolding withOctet
-ready-always =
+ready-always : (p : Profile) → Invariant (ours p) Lent (λ (card : Card). Ready (card .link))
+unfolding withCharacter
+ready-always p =
     record {
-      symbols = λ card octet ready. ready;
+      symbols = λ card x ready. ready;
       gaps = λ card loan lent ready. gap-told card loan lent ready .leaves;
       calls = λ card call ready. absurd call;
     }
@@ -109,8 +111,8 @@ module _ (reply : Reply) (can : CanWrite reply) where
 reply-seen : (octets buffer : List ℕ) → take (length octets) (laidIn buffer octets) ≡ octets
 reply-seen octets buffer = take-at octets (drop (length octets) buffer) (length octets) refl
 
-sound-at : (card : Card) (loan : Loan) → Lent loan → Ready (card .link) → ours .gap card loan .answer .number ≡ 0 → SoundReply ours card loan
-sound-at card loan lent ready e =
+sound-at : (p : Profile) (card : Card) (loan : Loan) → Lent loan → Ready (card .link) → ourGap card loan .answer .number ≡ 0 → SoundReply p ourGap card loan
+sound-at p card loan lent ready e =
     let o = outcomeAt card loan in
     let m = gap-told card loan lent ready .replies e in
     let meant = meantAt card loan (m .service) (m .user) in
@@ -120,11 +122,11 @@ sound-at card loan lent ready e =
       user = m .user;
       heard = m .heard;
       at-most-261 = omega (arith, ap (λ (l : List ℕ). length l) (m .reply), meant-length meant (m .can));
-      gives-back = ap (judge sapr) stands ∙ meant-back meant (m .can);
+      gives-back = sent-judged p sapr _ ∙ ap (judge sapr) stands ∙ meant-back meant (m .can);
     }
 
-pub sound-replies : SoundReplies ourCard
+pub sound-replies : (p : Profile) → SoundReplies (ourCard p)
 unfolding cardAtPowerOn
-sound-replies h fit =
-    at-gaps ours (λ card loan known. sound-at card loan (known .0) (known .1)) cardAtPowerOn h
-    (always ours ready-always cardAtPowerOn h fit power-on-ready .0)
+sound-replies p h fit =
+    at-gaps (ours p) (λ card loan known. sound-at p card loan (known .0) (known .1)) cardAtPowerOn h
+    (always (ours p) (ready-always p) cardAtPowerOn h fit power-on-ready .0)

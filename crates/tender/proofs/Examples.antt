@@ -1,9 +1,11 @@
--- Runs, loans, histories and cards that the wrong cards and the noisy history are tried on.
+-- Runs, loans, histories and cards that the wrong cards and the noisy history are tried on, in octets; `Sent` has them in both profiles.
 -- Over document 01's smallest image. Assumes nothing.
 use Prim.Native.Nat.{ℕ}
+use mathlib.Core.Bool.{false}
 use mathlib.Core.List.{List, [], _∷_}
 use lib.ListN.{set, replicate}
 use Rattle.history.specs.History.{fed, closedRun}
+use Rattle.profile.specs.declared.Profile.the-variants.{Ten}
 use Rattle.rules.specs.declared.Session.{Session}
 use Rattle.rules.specs.declared.Session.the-variants.{Closed, Open}
 use Rattle.deeds.specs.declared.Order.{Order}
@@ -15,8 +17,8 @@ use Rattle.tender.specs.Card.{Loan, Seen, History, endOf, ours, ourCard}
 use Rattle.tender.specs.Cases.{smallest, lent, reset, collect, password}
 use Rattle.tender.specs.Wrong.{repeater}
 
--- runs, each closed by a gap
-abbrev pub closedRuns : List (List ℕ) → History
+-- runs of octets, each closed by a gap
+abbrev pub closedRuns : List (List ℕ) → History Ten
 closedRuns [] = []
 closedRuns (run ∷ runs) = closedRun run lent (closedRuns runs)
 
@@ -38,10 +40,10 @@ abbrev pub changed : List ℕ
 changed = set reset 1 0x41
 
 -- a reset, and the same with noise before and after it
-abbrev pub quiet : History
+abbrev pub quiet : History Ten
 quiet = closedRun reset lent []
 
-abbrev pub noisy : History
+abbrev pub noisy : History Ten
 noisy = closedRun long lent (closedRun malformed lent (closedRun reset lent (closedRun spoiled lent (closedRun changed lent []))))
 
 -- what it answers is no fixed silence: the ACK, number 0
@@ -61,16 +63,16 @@ unanswered number = record { number = number; count = 0; order = order.NoOrder; 
 
 -- a collector that no run has left: it holds none, but not zeros
 abbrev pub odd : Card
-odd = record { collector = record { octets = 1 ∷ replicate 260 0; length = 0 }; link = powerOn; damaged = 0 }
+odd = record { collector = record { octets = 1 ∷ replicate 260 0; length = 0; marked = false }; link = powerOn; damaged = 0 }
 
 abbrev pub ready : Card
-ready = endOf ourCard quiet
+ready = endOf (ourCard Ten) quiet
 
 -- 09, nothing to give: 10 09 01 00 0A 16
 abbrev pub nothingToGive : List ℕ
 nothingToGive = 0x10 ∷ 0x09 ∷ 0x01 ∷ 0x00 ∷ 0x0A ∷ 0x16 ∷ []
 
--- what is compared: the first gap's number and order, the last gap's reply length, the session and the last FCB at the end
+-- what is compared: the first gap's number and order, the last gap's number and reply length, the session and the last FCB at the end
 abbrev pub firstNumber : List Seen → ℕ
 firstNumber [] = 99
 firstNumber (seen ∷ rest) = seen .number
@@ -83,6 +85,11 @@ orderNumber order.SetDates = 2
 abbrev pub firstOrder : List Seen → ℕ
 firstOrder [] = 99
 firstOrder (seen ∷ rest) = orderNumber (seen .order)
+
+abbrev pub lastNumber : List Seen → ℕ
+lastNumber [] = 99
+lastNumber (seen ∷ []) = seen .number
+lastNumber (seen ∷ next ∷ rest) = lastNumber (next ∷ rest)
 
 abbrev pub lastCount : List Seen → ℕ
 lastCount [] = 99
@@ -100,7 +107,7 @@ sessionOf card = sessionNumber (card .link .session)
 abbrev pub behind : Loan
 behind = record { image = set smallest 5 2; clock = lent .clock; buffer = lent .buffer }
 
-abbrev pub openedBehind : History
+abbrev pub openedBehind : History Ten
 openedBehind =
     closedRun (0x10 ∷ 0x40 ∷ 0x02 ∷ 0x00 ∷ 0x42 ∷ 0x16 ∷ []) behind
     (closedRun
@@ -109,21 +116,21 @@ openedBehind =
 
 -- a card that has a changed reset in its collector, and one that has a malformed run
 abbrev pub changedCard : Card
-changedCard = fed ours cardAtPowerOn changed
+changedCard = fed (ours Ten) cardAtPowerOn changed
 
 abbrev pub malformedCard : Card
-malformedCard = fed ours cardAtPowerOn malformed
+malformedCard = fed (ours Ten) cardAtPowerOn malformed
 
 -- a buffer of ones
 abbrev pub ones : Loan
 ones = record { image = smallest; clock = lent .clock; buffer = replicate 261 1 }
 
 -- a reset, the password and its mirror; with a run of one octet put in; and the card that only repeats, after the reset
-abbrev pub opened : History
+abbrev pub opened : History Ten
 opened = closedRuns (reset ∷ password ∷ collect ∷ [])
 
-abbrev pub oneOctetIn : History
+abbrev pub oneOctetIn : History Ten
 oneOctetIn = closedRuns (reset ∷ (0 ∷ []) ∷ password ∷ collect ∷ [])
 
 abbrev pub afterFirst : Card
-afterFirst = endOf repeater quiet
+afterFirst = endOf (repeater Ten) quiet

@@ -13,10 +13,12 @@ pub mod Repeats
 pub mod CountBit
 pub mod Smallest
 pub mod Examples
+pub mod Sent
 pub mod Worked
 pub mod Noisy
 pub mod Cases
 pub mod Ranges
 pub mod AutumnHour
+pub mod ElevenBits
 pub mod Wrong
 pub mod Unruly

@@ -40,7 +40,7 @@ use Rattle.card.proofs.Examining.{as-heard}
 use Rattle.card.specs.Gap.{Outcome, refusal, repliedBy, afterAnswer}
 use Rattle.card.proofs.Gap.{End, short, unsound, faulty, other-link, not-offered, replied, gap-heard, gap-end}
 use Rattle.card.proofs.Gap as end
-use Rattle.tender.specs.Card.{Loan, noTime, outcomeAt, ours}
+use Rattle.tender.specs.Card.{Loan, noTime, outcomeAt, ourGap}
 use Rattle.tender.specs.Rules.{Hears, ownAddress, Afresh, nackDue, carriedAt, requestIn, Carries, Ordered, sets-clock, sets-dates, Orders, Changes, by-reset, right-password, wrong-password, by-187, Sessions, Refused183, DataInSession}
 
 -- what is shown of every gap: its order is a message's, or there is none; its session is one that something changes, or it is kept
@@ -151,12 +151,12 @@ module _ (card : Card) (loan : Loan) where
   gap-ended = end-ended (gap-end card (loan .image) (loan .clock) (length (loan .buffer)))
 
 -- each request of these gives its order, changes the session; and by the end of any gap, none other does
-pub orders-only-so : Orders ours
+pub orders-only-so : Orders ourGap
 unfolding afterAnswer repliedBy carried carriedOut table rowIn
 orders-only-so = record { so = so; only-so = λ card loan. gap-ended card loan .orders }
   where
     so : (card : Card) (loan : Loan) {its-order : Order} {time : List ℕ} → Ordered card loan its-order time
-        → (ours .gap card loan .answer .order ≡ its-order) × (ours .gap card loan .answer .time ≡ time)
+        → (ourGap card loan .answer .order ≡ its-order) × (ourGap card loan .answer .time ≡ time)
     so card loan (sets-clock user bit c) =
         rw (carried-gap (c .afresh) (c .taken), c .decided, c .is-type)
         (refl, clock-time (card .link .session) (loan .image) (loan .clock) (octetsOf user) (c .decided) (c .is-type))
@@ -164,18 +164,18 @@ orders-only-so = record { so = so; only-so = λ card loan. gap-ended card loan .
         rw (carried-gap (c .afresh) (c .taken), c .decided, c .is-type)
         (refl, dates-time (card .link .session) (loan .image) (loan .clock) (octetsOf user) (c .decided) (c .is-type))
 
-pub sessions-only-so : Sessions ours
+pub sessions-only-so : Sessions ourGap
 unfolding afterAnswer repliedBy leftWith answered answeredBy afterReset carried afterNew carriedOut table rowIn
 sessions-only-so = record { so = so; only-so = λ card loan. gap-ended card loan .sessions }
   where
-    so : (card : Card) (loan : Loan) {after : Session} → Changes card loan after → ours .gap card loan .state .link .session ≡ after
+    so : (card : Card) (loan : Loan) {after : Session} → Changes card loan after → ourGap card loan .state .link .session ≡ after
     so card loan (by-reset user h) =
         rw (gap-heard card (loan .image) (loan .clock) (length (loan .buffer)) (h .room) (h .sound-image) (h .heard))
     so card loan (right-password user bit c) = rw (carried-gap (c .afresh) (c .taken), c .decided, c .is-type)
     so card loan (wrong-password user bit c) = rw (carried-gap (c .afresh) (c .taken), c .decided, c .is-type)
     so card loan (by-187 user bit c) = rw (carried-gap (c .afresh) (c .taken), c .decided, c .is-type)
 
-pub refused-183 : Refused183 ours
+pub refused-183 : Refused183 ourGap
 unfolding afterAnswer repliedBy leftWith carried afterNew carriedOut
 refused-183 card loan user bit its-type its-rule c least most =
     rw (carried-gap (c .afresh) (c .taken))

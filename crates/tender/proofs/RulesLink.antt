@@ -30,7 +30,7 @@ use Rattle.card.specs.declared.Card.{Card}
 use Rattle.card.specs.State.{leftWith}
 use Rattle.card.specs.Gap.{refusal, repliedBy, afterAnswer}
 use Rattle.card.proofs.Gap.{answer-unreset, answer-replied, gap-heard}
-use Rattle.tender.specs.Card.{Loan, Seen, outcomeAt, ours}
+use Rattle.tender.specs.Card.{Loan, Seen, outcomeAt, ourGap}
 use Rattle.tender.specs.Rules.{Hears, ownAddress, ack, nack, nothingToGive, Replies, linkWith, noting, Answers, ResetCloses, StatusKeeps, UnresetRefused, EqualRepeats, Afresh, NewNoted, repliesWait, nackDue, carriedAt, NewData, nextAt, replyAt, NewCollection}
 
 -- a gap that hears a service
@@ -48,25 +48,25 @@ module _ {card : Card} {loan : Loan} {service : Service} {user : Kept} (h : Hear
   replied-so a e some = heard-gap ∙ rw e (answer-replied card a (λ n. some (ap which n)))
 
   pub heard-replied : (a : Answered) → answer ≡ a → (which (a .sends) ≡ 0 → ⊥) → {link : Link} → a .link ≡ link
-      → Answers card loan (replySent (a .sends) (a .link)) (a .order) link (ours .gap card loan)
+      → Answers card loan (replySent (a .sends) (a .link)) (a .order) link (ourGap card loan)
   unfolding repliedBy
   heard-replied a e some l =
       rw (replied-so a e some)
       (record { replies = record { number = refl; counts = refl; stands = refl }; orders = refl; leaves = ap (λ (k : Link). leftWith k card) l })
 
-  pub heard-times : (a : Answered) → answer ≡ a → (which (a .sends) ≡ 0 → ⊥) → ours .gap card loan .answer .time ≡ a .time
+  pub heard-times : (a : Answered) → answer ≡ a → (which (a .sends) ≡ 0 → ⊥) → ourGap card loan .answer .time ≡ a .time
   unfolding repliedBy
   heard-times a e some = rw (replied-so a e some)
 
-pub reset-closes : ResetCloses ours
+pub reset-closes : ResetCloses ourGap
 unfolding answered answeredBy afterReset which
 reset-closes card loan user h = heard-replied h _ refl (λ e. omega (arith, e)) refl
 
-pub status-keeps : StatusKeeps ours
+pub status-keeps : StatusKeeps ourGap
 unfolding answered answeredBy which
 status-keeps card loan user h = heard-replied h _ refl (λ e. omega (arith, e)) refl
 
-pub unreset-refused : UnresetRefused ours
+pub unreset-refused : UnresetRefused ourGap
 unfolding refusal answeredBy
 unreset-refused card loan service user bit counts h unset =
     let a = answeredBy NotReset (card .link) in
@@ -74,7 +74,7 @@ unreset-refused card loan service user bit counts h unset =
     rw (heard-gap h, e, answer-unreset card a refl)
     (record { numbered = refl; no-reply = refl; no-order = refl; buffer-kept = refl; leaves = refl })
 
-pub equal-repeats : EqualRepeats ours
+pub equal-repeats : EqualRepeats ourGap
 unfolding answeredBy which
 equal-repeats card loan service user bit counts h set equal =
     heard-replied h (answeredBy Remembered (card .link)) (answered-last (card .link) user (loan .image) (loan .clock) counts set equal)
@@ -107,7 +107,7 @@ module _ {card : Card} {loan : Loan} {user : Kept} {bit : ℕ} (f : Afresh card 
   unfolding answered
   data-answer = with-new bit (card .link) _ (f .is-reset) (f .new)
 
-  pub nacked : nackDue card user ≡ true → Answers card loan (nack loan) order.NoOrder (noting bit (nack loan) card) (ours .gap card loan)
+  pub nacked : nackDue card user ≡ true → Answers card loan (nack loan) order.NoOrder (noting bit (nack loan) card) (ourGap card loan)
   unfolding userData noted answeredBy afterNew which
   nacked due = heard-replied (f .hears) (noted bit (nack loan) (card .link)) (data-answer ∙ rw due) (λ e. omega (arith, e)) (rw (f .is-reset))
 
@@ -120,15 +120,15 @@ module _ {card : Card} {loan : Loan} {user : Kept} {bit : ℕ} (f : Afresh card 
 
   pub acked : nackDue card user ≡ false
       → Answers card loan (ack loan) (carriedAt card loan user .order)
-      (linkWith bit (carriedAt card loan user .session) (ack loan) (carriedAt card loan user .pending)) (ours .gap card loan)
+      (linkWith bit (carriedAt card loan user .session) (ack loan) (carriedAt card loan user .pending)) (ourGap card loan)
   unfolding carried afterNew which
   acked taken = heard-replied (f .hears) done (carried-answer taken) (λ e. omega (arith, e)) (rw (f .is-reset))
 
-  pub timed : nackDue card user ≡ false → ours .gap card loan .answer .time ≡ carriedAt card loan user .time
+  pub timed : nackDue card user ≡ false → ourGap card loan .answer .time ≡ carriedAt card loan user .time
   unfolding carried which
   timed taken = heard-times (f .hears) done (carried-answer taken) (λ e. omega (arith, e))
 
-pub new-data : NewData ours
+pub new-data : NewData ourGap
 new-data card loan user bit f =
     record {
       nack-if = nacked f;
@@ -147,20 +147,20 @@ module _ {card : Card} {loan : Loan} {user : Kept} {bit : ℕ} (f : Afresh card 
   unfolding answered collection
   collection-answer = with-new bit (card .link) _ (f .is-reset) (f .new)
 
-  pub none-given : repliesWait card ≡ false → Answers card loan (nothingToGive loan) order.NoOrder (noting bit (nothingToGive loan) card) (ours .gap card loan)
+  pub none-given : repliesWait card ≡ false → Answers card loan (nothingToGive loan) order.NoOrder (noting bit (nothingToGive loan) card) (ourGap card loan)
   unfolding given noted answeredBy afterNew which
   none-given e =
       heard-replied (f .hears) (noted bit (nothingToGive loan) (card .link)) (collection-answer ∙ rw (found ∙ e)) (λ z. omega (arith, z)) (rw (f .is-reset))
 
   pub next-given : repliesWait card ≡ true
       → Answers card loan (replyAt card loan) order.NoOrder (linkWith bit (card .link .session) (replyAt card loan) (nextAt card loan .pending))
-      (ours .gap card loan)
+      (ourGap card loan)
   unfolding given answeredBy afterNew which
   next-given e =
       heard-replied (f .hears) (answeredBy Remembered (afterNew bit (replyAt card loan) (card .link .session) (nextAt card loan .pending) (card .link)))
       (collection-answer ∙ rw (found ∙ e)) (λ z. omega (arith, z)) (rw (f .is-reset))
 
-pub new-collection : NewCollection ours
+pub new-collection : NewCollection ourGap
 new-collection card loan user bit f =
     record {
       nothing-if = none-given f;
@@ -170,13 +170,13 @@ new-collection card loan user bit f =
 
 -- whatever is answered to a new FCB is remembered
 answers-remembered : {card : Card} {loan : Loan} {reply : Reply} {o : Order} {bit : ℕ} {session : Session} {pending : Pending}
-    → Answers card loan reply o (linkWith bit session reply pending) (ours .gap card loan)
-    → Replies loan (ours .gap card loan .state .link .remembered) (ours .gap card loan .answer)
+    → Answers card loan reply o (linkWith bit session reply pending) (ourGap card loan)
+    → Replies loan (ourGap card loan .state .link .remembered) (ourGap card loan .answer)
 unfolding leftWith
 answers-remembered {card} {loan} a =
-    subst (λ (reply : Reply). Replies loan reply (ours .gap card loan .answer)) (sym (ap (λ (c : Card). c .link .remembered) (a .leaves))) (a .replies)
+    subst (λ (reply : Reply). Replies loan reply (ourGap card loan .answer)) (sym (ap (λ (c : Card). c .link .remembered) (a .leaves))) (a .replies)
 
-pub new-afresh : NewNoted ours
+pub new-afresh : NewNoted ourGap
 new-afresh card loan service user bit user-data f =
     by-value (nackDue card user) (λ t. answers-remembered (nacked f t)) (λ t. answers-remembered (acked f t))
 new-afresh card loan service user bit collects f =

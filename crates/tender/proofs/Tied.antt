@@ -5,33 +5,40 @@ use mathlib.Core.List.{List, [], _∷_}
 use mathlib.Core.Path.{_≡_, refl, _∙_}
 use denote.Ref.{now}
 use Rattle.history.specs.History.{fed}
+use Rattle.profile.specs.declared.Profile.{Profile}
+use Rattle.profile.specs.declared.Profile.the-variants.{Ten, Eleven}
+use Rattle.profile.specs.Profile.{CharacterIn}
 use Rattle.card.specs.declared.Card.{Card}
 use Rattle.card.specs.declared.Gone.{Gone}
-use Rattle.card.specs.State.{withOctet, withOctets}
+use Rattle.card.specs.State.{withCharacter, withCharacters}
 use Rattle.card.specs.Gap.{goneBy, Gapped}
 use Rattle.card.proofs.Card.gap.Reads as card-gap
 use Rattle.card.proofs.Card.power_on.Reads as card-power-on
 use Rattle.card.proofs.Card.octet.Reads as card-octet
 use Rattle.card.proofs.Card.octets.Reads as card-octets
-use Rattle.tender.specs.Card.{Loan, outcomeAt, ours}
-use Rattle.tender.specs.Tied.{outcomeBy, PowerOnTied, OctetTied, OctetsTied, GapTied}
+use Rattle.card.proofs.Card.character.Reads as card-character
+use Rattle.tender.specs.Card.{Loan, outcomeAt, ourGap, ours}
+use Rattle.tender.specs.Tied.{outcomeBy, PowerOnTied, CharacterTied, OctetsTied, GapTied}
 
 pub power-on-tied : PowerOnTied card-power-on.Post
 power-on-tied κs r s allowed = allowed
 
-pub octet-tied : OctetTied card-octet.Post
+pub octet-tied : CharacterTied Ten card-octet.Post
 octet-tied κs card octet r s allowed = allowed
 
-pub octets-are-ours : (run : List ℕ) (card : Card) → withOctets card run ≡ fed ours card run
-unfolding withOctets fed
-octets-are-ours [] card = refl
-octets-are-ours (octet ∷ run) card = octets-are-ours run (withOctet card octet)
+pub character-tied : CharacterTied Eleven card-character.Post
+character-tied κs card x r s allowed = allowed
+
+pub characters-are-ours : (p : Profile) (run : List (CharacterIn p)) (card : Card) → withCharacters p card run ≡ fed (ours p) card run
+unfolding withCharacters fed
+characters-are-ours p [] card = refl
+characters-are-ours p (x ∷ run) card = characters-are-ours p run (withCharacter p card x)
 
 pub octets-tied : OctetsTied card-octets.Post
-octets-tied κs card octets r s allowed = allowed ∙ octets-are-ours (now octets) card
+octets-tied κs card octets r s allowed = allowed ∙ characters-are-ours Ten (now octets) card
 
 gap-is-ours : (card : Card) (loan : Loan) (gone : Gone) (left : List ℕ) → Gapped (outcomeAt card loan) (loan .buffer) gone left
-    → outcomeBy gone left ≡ ours .gap card loan
+    → outcomeBy gone left ≡ ourGap card loan
 unfolding goneBy
 gap-is-ours card loan gone left g = rw (g .answers, g .left-so)
 

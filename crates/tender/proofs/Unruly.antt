@@ -14,6 +14,7 @@ use Rattle.frame.specs.declared.Service.the-variants.{UserData}
 use Rattle.frame.specs.Controls.{user-data}
 use Rattle.frame.specs.Writing.{plain}
 use Rattle.octets.specs.Keeping.{keptOf}
+use Rattle.profile.specs.declared.Profile.the-variants.{Ten}
 use Rattle.card.specs.declared.Finding.the-variants.{Asks}
 use Rattle.collector.specs.Collecting.{emptied}
 use Rattle.card.specs.Examining.{examined}
@@ -51,7 +52,7 @@ mirrorWaits = record { waiting = Mirror 7; request = keptOf (replicate 6 0); clo
 -- a card in the session of point 1 that has a run in its collector, with a last FCB and what waits
 abbrev hearing : List ℕ → ℕ → Pending → Card
 hearing run last pending =
-    fed ours (record { collector = emptied; link = linkWith last (Open (record { 0 = 1 })) (plain Ack (record { 0 = 1 })) pending; damaged = 0 }) run
+    fed (ours Ten) (record { collector = emptied; link = linkWith last (Open (record { 0 = 1 })) (plain Ack (record { 0 = 1 })) pending; damaged = 0 }) run
 
 abbrev userOf : Card → Kept
 userOf card = examined (card .collector) smallest .user

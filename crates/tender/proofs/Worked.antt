@@ -17,8 +17,10 @@ use Rattle.label.specs.Label.{labelAAt, labelBAt, labelAOctets, labelBOctets}
 use Rattle.frame.specs.Controls.{offered}
 use Rattle.frame.specs.Frame.{sumRight, fixedForm, variableForm, startOf, saidFixed, saidVariable, said, judge, bodyOf, startWith, written}
 use Rattle.frame.specs.Writing.{replyFrame, replyOctets}
-use Rattle.collector.specs.Collecting.{emptied, overfull, isOverfull, collected, runOf, verdictOf}
-use Rattle.collector.specs.Calls.{collectedAll}
+use Rattle.profile.specs.Character.{lowBits, bitsOf, evenParity, rightly}
+use Rattle.profile.specs.Profile.{judgeMarked}
+use Rattle.collector.specs.Collecting.{emptied, overfull, isOverfull, collectedIn, runOf, verdictOf}
+use Rattle.collector.specs.Calls.{collectedAllIn}
 use Rattle.collector.specs.Damage.{oneMore}
 use Rattle.records.specs.Records.{lengthOf, isWhole, walk, records, wholeAt, recordAt, recordsFrom, kindAt, placeAfter}
 use Rattle.records.specs.Said.{every, linked, keep, howMany, placesOf}
@@ -41,7 +43,7 @@ use Rattle.waiting.specs.NextReply.{firstly, lastly, nothingFound, readingType,
 use Rattle.waiting.specs.Collected.{messagesCollected}
 use Rattle.link.specs.State.{powerOn, afterReset, afterNew}
 use Rattle.link.specs.Answering.{answeredBy, noted, carried, userData, given, collection, counted, answered}
-use Rattle.card.specs.State.{cardAtPowerOn, withOctet, leftWith, damagedBy}
+use Rattle.card.specs.State.{cardAtPowerOn, withCharacter, withCharacters, leftWith, damagedBy}
 use Rattle.card.specs.Examining.{examinedFrame, examined}
 use Rattle.card.specs.Gap.{refusal, repliedBy, afterAnswer, afterExamining, gapped, goneBy}
 
@@ -62,8 +64,12 @@ unfoldable pub of-frame : Unit {0}
 unfolding offered sumRight fixedForm variableForm startOf saidFixed saidVariable said judge bodyOf startWith written replyFrame replyOctets
 of-frame = tt
 
+unfoldable pub of-profile : Unit {0}
+unfolding lowBits bitsOf evenParity rightly judgeMarked
+of-profile = tt
+
 unfoldable pub of-collector : Unit {0}
-unfolding emptied overfull isOverfull collected runOf collectedAll verdictOf oneMore
+unfolding emptied overfull isOverfull collectedIn runOf collectedAllIn verdictOf oneMore
 of-collector = tt
 
 unfoldable pub of-records : Unit {0}
@@ -108,9 +114,9 @@ unfolding powerOn afterReset afterNew answeredBy noted carried userData given co
 of-link = tt
 
 unfoldable pub of-card : Unit {0}
-unfolding cardAtPowerOn withOctet leftWith damagedBy examinedFrame examined refusal repliedBy afterAnswer afterExamining gapped goneBy
+unfolding cardAtPowerOn withCharacter withCharacters leftWith damagedBy examinedFrame examined refusal repliedBy afterAnswer afterExamining gapped goneBy
 of-card = tt
 
 unfoldable pub everything : Unit {0}
-unfolding of-octets of-history of-label of-frame of-collector of-records of-fields of-image of-choice of-message of-rules of-data of-deeds of-waiting of-link of-card
+unfolding of-octets of-history of-label of-frame of-profile of-collector of-records of-fields of-image of-choice of-message of-rules of-data of-deeds of-waiting of-link of-card
 everything = tt

@@ -1,7 +1,7 @@
 -- What the link remembers can be written, from power-on on: its address has two octets, and at most 252 user octets count.
 -- By the ways in which a frame is answered; a new reply carries the address of the image lent. Assumes nothing.
 use Prim.Native.Nat.{ℕ, _≤_, _<_}
-use mathlib.Core.Bool.{not}
+use mathlib.Core.Bool.{Bool, not}
 use mathlib.Core.List.{List, []}
 use mathlib.Core.Path.{_≡_, refl}
 use native.Mathlib.Omega.{arith}
@@ -24,11 +24,13 @@ use Rattle.frame.specs.declared.Form.the-variants as form
 use Rattle.frame.specs.declared.Reply.{Reply}
 use Rattle.frame.specs.declared.Service.{Service}
 use Rattle.frame.specs.Family.{sapr}
-use Rattle.frame.specs.Frame.{fixed, variable, Verdict, refused, sound, judge}
+use Rattle.frame.specs.Frame.{fixed, variable, Verdict, refused, sound}
 use Rattle.frame.specs.Controls.{offered}
 use Rattle.frame.specs.Writing.{plain}
 use Rattle.frame.proofs.Judging.{user-octets}
 use Rattle.fields.proofs.Parts.{number-small}
+use Rattle.profile.specs.Profile.{judgeMarked}
+use Rattle.profile.proofs.Judging.{sound-unmarked}
 use Rattle.collector.specs.declared.Collector.{Collector}
 use Rattle.collector.specs.Collecting.{isOverfull, runOf, verdictOf}
 use Rattle.link.specs.declared.Link.{Link}
@@ -81,18 +83,18 @@ unfolding keptOf
 asked-short NotOffered user few = none-short
 asked-short (Is service) user few = few
 
-of-run : (image run : List ℕ) (v : Verdict) → judge sapr run ≡ v → ShortHeard (examinedVerdict image v)
+of-run : (image run : List ℕ) (wrong : Bool) (v : Verdict) → judgeMarked sapr wrong run ≡ v → ShortHeard (examinedVerdict image v)
 unfolding examinedFrame
-of-run image run (refused fault) e = none-short
-of-run image run (sound (fixed c a)) e =
+of-run image run wrong (refused fault) e = none-short
+of-run image run wrong (sound (fixed c a)) e =
     either ShortHeard (not (isLink (identityFound image) (record { 0 = a }))) (λ _. none-short) (λ _. asked-short (offered form.Fixed c) [] (omega arith))
-of-run image run (sound (variable c a user)) e =
-    either ShortHeard (not (isLink (identityFound image) (record { 0 = a }))) (λ _. none-short) (λ _. asked-short (offered form.Variable c) user (user-octets run c a user e .fits))
+of-run image run wrong (sound (variable c a user)) e =
+    either ShortHeard (not (isLink (identityFound image) (record { 0 = a }))) (λ _. none-short) (λ _. asked-short (offered form.Variable c) user (user-octets run c a user (sound-unmarked sapr run wrong _ e .1) .fits))
 
 pub heard-short : (c : Collector) (image : List ℕ) → Short (examined c image .user)
 unfolding examined verdictOf
 heard-short c image =
-    either (λ (v : Verdict). ShortHeard (examinedVerdict image v)) (isOverfull c) (λ _. none-short) (λ _. of-run image (runOf c) (judge sapr (runOf c)) refl)
+    either (λ (v : Verdict). ShortHeard (examinedVerdict image v)) (isOverfull c) (λ _. none-short) (λ _. of-run image (runOf c) (c .marked) (judgeMarked sapr (c .marked) (runOf c)) refl)
 
 -- at power-on
 plain-written : (c : Control) (address : LinkAddress) → address .0 < 65536 → CanWrite (plain c address)

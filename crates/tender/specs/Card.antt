@@ -1,5 +1,5 @@
--- Any card: how it powers on, and what an octet and a gap do to it, on the card's types; and ours, which is what the contracts of the crate
--- `card` say (`Tied`). Assumes nothing.
+-- Any card of a profile: how it powers on, and what a character and a gap do to it, on the card's types; and ours, which is what the contracts of the crate
+-- `card` say (`Tied`). The profile is given with the characters; a gap does not ask for it. Assumes nothing.
 use Prim.Native.Nat.{ℕ}
 use mathlib.Core.List.{List}
 use mathlib.Core.Path.{_≡_}
@@ -7,11 +7,13 @@ use lib.ListN.{length, take, replicate}
 use Rattle.octets.specs.Over.{laidIn}
 use Rattle.octets.specs.declared.Kept.{Kept}
 use Rattle.frame.specs.declared.Service.{Service}
+use Rattle.profile.specs.declared.Profile.{Profile}
+use Rattle.profile.specs.Profile.{CharacterIn}
 use Rattle.history.specs.History.{Event, Stepped, Machine, answers, after, fed}
 use Rattle.deeds.specs.declared.Order.{Order}
 use Rattle.card.specs.declared.Card.{Card}
 use Rattle.card.specs.declared.Finding.the-variants.{Asks}
-use Rattle.card.specs.State.{cardAtPowerOn, withOctet}
+use Rattle.card.specs.State.{cardAtPowerOn, withCharacter}
 use Rattle.card.specs.Examining.{examined}
 use Rattle.card.specs.Gap.{gapped}
 use Rattle.card.specs.Gap as gap
@@ -38,27 +40,32 @@ replyIn seen = take (seen .count) (seen .buffer)
 abbrev pub noTime : List ℕ
 noTime = replicate 10 0
 
--- what a card's calls do. There are none but octets and gaps
-abbrev pub Calls : Type 0
-Calls = Machine Card ℕ Loan ⊥ Seen
+-- what a gap does: it is lent something, answers, and leaves a card
+abbrev pub GapCall : Type 0
+GapCall = Card → Loan → Stepped Card Seen
 
--- any card: how it powers on, and what its calls do
-pub record AnyCard : Type 0 where
+-- what a card's calls do, where the line delivers A. There are none but characters and gaps
+abbrev pub CallsOf : Type 0 → Type 0
+CallsOf A = Machine Card A Loan ⊥ Seen
+
+-- any card of a profile: how it powers on, and what its calls do
+pub record AnyCard (p : Profile) : Type 0 where
   pub powerOn : Card
-  pub calls : Calls
+  pub calls : CallsOf (CharacterIn p)
 
-abbrev pub History : Type 0
-History = List (Event ℕ Loan ⊥)
+-- one profile for a whole history
+abbrev pub History : Profile → Type 0
+History p = List (Event (CharacterIn p) Loan ⊥)
 
 -- what a card answers to a history from its power-on, and the card at its end
-abbrev pub answersOf : AnyCard → History → List Seen
+abbrev pub answersOf : {p : Profile} → AnyCard p → History p → List Seen
 answersOf c h = answers (c .calls) (c .powerOn) h
 
-abbrev pub endOf : AnyCard → History → Card
+abbrev pub endOf : {p : Profile} → AnyCard p → History p → Card
 endOf c h = after (c .calls) (c .powerOn) h
 
--- a run is received: its octets are put in, and the gap comes
-abbrev pub received : Calls → Card → List ℕ → Loan → Stepped Card Seen
+-- a run is received: its characters are put in, and the gap comes
+abbrev pub received : {A : Type 0} → CallsOf A → Card → List A → Loan → Stepped Card Seen
 received m card run loan = m .gap (fed m card run) loan
 
 -- the run is examined, and a service for this card is heard, with these user octets
@@ -79,13 +86,11 @@ seenOf o buffer =
 abbrev pub outcomeAt : Card → Loan → gap.Outcome
 outcomeAt card loan = gapped card (loan .image) (loan .clock) (length (loan .buffer))
 
-abbrev pub ours : Calls
-ours =
-    record {
-      symbol = withOctet;
-      gap = λ card loan. record { state = outcomeAt card loan .card; answer = seenOf (outcomeAt card loan) (loan .buffer) };
-      call = λ card call. absurd call;
-    }
+abbrev pub ourGap : GapCall
+ourGap card loan = record { state = outcomeAt card loan .card; answer = seenOf (outcomeAt card loan) (loan .buffer) }
 
-abbrev pub ourCard : AnyCard
-ourCard = record { powerOn = cardAtPowerOn; calls = ours }
+abbrev pub ours : (p : Profile) → CallsOf (CharacterIn p)
+ours p = record { symbol = withCharacter p; gap = ourGap; call = λ card call. absurd call }
+
+abbrev pub ourCard : (p : Profile) → AnyCard p
+ourCard p = record { powerOn = cardAtPowerOn; calls = ours p }

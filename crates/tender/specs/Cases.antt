@@ -23,6 +23,8 @@ use Rattle.deeds.specs.declared.Order.the-variants.{NoOrder}
 use Rattle.deeds.specs.declared.Pending.{Pending}
 use Rattle.deeds.specs.declared.Waiting.{Waiting}
 use Rattle.deeds.specs.declared.Waiting.the-variants.{NoReply, Mirror}
+use Rattle.profile.specs.declared.Profile.{Profile}
+use Rattle.profile.specs.Profile.{runSent}
 use Rattle.link.specs.State.{dataReply}
 use Rattle.card.specs.declared.Card.{Card}
 use Rattle.card.specs.State.{cardAtPowerOn}
@@ -67,15 +69,17 @@ pub data Said : Type 0 where
   outcomes : List (Stepped Card Seen) → Said
   numbers : List ℕ → Said
 
--- turn after turn, by the definition
-abbrev pub outcomesFrom : Card → List Turn → List (Stepped Card Seen)
-outcomesFrom card [] = []
-outcomesFrom card (t ∷ turns) = received ours card (t .run) lent ∷ outcomesFrom (received ours card (t .run) lent .state) turns
+-- turn after turn, by the definition, in a profile: with eleven bits each octet comes with its right parity bit
+abbrev pub outcomesFrom : Profile → Card → List Turn → List (Stepped Card Seen)
+outcomesFrom p card [] = []
+outcomesFrom p card (t ∷ turns) =
+    let outcome = received (ours p) card (runSent p (t .run)) lent in
+    outcome ∷ outcomesFrom p (outcome .state) turns
 
-abbrev pub saidOf : Case → Said
-saidOf (conversation turns) = outcomes (outcomesFrom cardAtPowerOn turns)
-saidOf (label octets valid parts) = numbers ((if validA (labelAAt octets 0) then 1 else 0) ∷ partsA (labelAAt octets 0))
-saidOf (beginning octets parts) = numbers (second (labelBAt octets 0) ∷ millisecond (labelBAt octets 0) ∷ [])
+abbrev pub saidOf : Profile → Case → Said
+saidOf p (conversation turns) = outcomes (outcomesFrom p cardAtPowerOn turns)
+saidOf p (label octets valid parts) = numbers ((if validA (labelAAt octets 0) then 1 else 0) ∷ partsA (labelAAt octets 0))
+saidOf p (beginning octets parts) = numbers (second (labelBAt octets 0) ∷ millisecond (labelBAt octets 0) ∷ [])
 
 -- what document 01 says of it
 abbrev pub writtenOf : Case → Said

@@ -7,5 +7,6 @@ pub mod Rules
 pub mod Cases
 pub mod Ranges
 pub mod AutumnHour
+pub mod ElevenBits
 pub mod Wrong
 pub mod Unruly

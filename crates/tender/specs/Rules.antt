@@ -1,5 +1,5 @@
 -- Document 01's rules of the link, of orders, of the session and of what waits, one by one, each beside the paper's sentence: first as statements about any
--- card's calls, collected in `Rules`, then about the definitions that these cite. What a card leaves is spelled part by part, so that a part which changes
+-- card's gap, collected in `Rules`, then about the definitions that these cite. What a card leaves is spelled part by part, so that a part which changes
 -- where it may not is seen. `P ⊎ Q` says: P or Q. Assumes nothing.
 use Prim.Native.Nat.{ℕ, _-_, _+_, _≤_}
 use mathlib.Core.Bool.{Bool, true, false, _||_}
@@ -55,7 +55,7 @@ use Rattle.link.specs.State.{dataReply}
 use Rattle.link.specs.Answering.{linkIn}
 use Rattle.card.specs.declared.Card.{Card}
 use Rattle.card.specs.State.{leftWith}
-use Rattle.tender.specs.Card.{Loan, Seen, Calls, Heard, noTime}
+use Rattle.tender.specs.Card.{Loan, Seen, GapCall, Heard, noTime}
 
 -- a gap at which a service is heard, lent a full buffer and a sound image
 pub record Hears (card : Card) (loan : Loan) (service : Service) (user : Kept) : Type 0 where
@@ -101,15 +101,15 @@ pub record Answers (card : Card) (loan : Loan) (reply : Reply) (its-order : Orde
   pub leaves : x .state ≡ leftWith link card
 
 -- "Reset: ACK; session closed, waiting replies dropped, last FCB 0, the ACK remembered."
-abbrev pub ResetCloses : Calls → Type 0
-ResetCloses m =
+abbrev pub ResetCloses : GapCall → Type 0
+ResetCloses gap =
     (card : Card) (loan : Loan) (user : Kept) → Hears card loan Reset user
-    → Answers card loan (ack loan) order.NoOrder (linkWith 0 Closed (ack loan) nothingPending) (m .gap card loan)
+    → Answers card loan (ack loan) order.NoOrder (linkWith 0 Closed (ack loan) nothingPending) (gap card loan)
 
 -- "Status: reply 0B; changes nothing."
-abbrev pub StatusKeeps : Calls → Type 0
-StatusKeeps m =
-    (card : Card) (loan : Loan) (user : Kept) → Hears card loan Status user → Answers card loan (status loan) order.NoOrder (card .link) (m .gap card loan)
+abbrev pub StatusKeeps : GapCall → Type 0
+StatusKeeps gap =
+    (card : Card) (loan : Loan) (user : Kept) → Hears card loan Status user → Answers card loan (status loan) order.NoOrder (card .link) (gap card loan)
 
 -- 7, "function 3 or 11 before the first reset": "link and session unchanged"; no reply, no order, the buffer untouched, the run gone, the count as it was
 pub record Unanswered (card : Card) (loan : Loan) (number : ℕ) (x : Stepped Card Seen) : Type 0 where
@@ -119,16 +119,16 @@ pub record Unanswered (card : Card) (loan : Loan) (number : ℕ) (x : Stepped Ca
   pub buffer-kept : x .answer .buffer ≡ loan .buffer
   pub leaves : x .state ≡ leftWith (card .link) card
 
-abbrev pub UnresetRefused : Calls → Type 0
-UnresetRefused m =
+abbrev pub UnresetRefused : GapCall → Type 0
+UnresetRefused gap =
     (card : Card) (loan : Loan) (service : Service) (user : Kept) (bit : ℕ) → Counts service bit → Hears card loan service user → card .link .reset ≡ false
-    → Unanswered card loan 7 (m .gap card loan)
+    → Unanswered card loan 7 (gap card loan)
 
 -- "Functions 3 and 11 with FCB equal to the last: the remembered reply again, octet for octet, nothing carried out, whatever the frame holds."
-abbrev pub EqualRepeats : Calls → Type 0
-EqualRepeats m =
+abbrev pub EqualRepeats : GapCall → Type 0
+EqualRepeats gap =
     (card : Card) (loan : Loan) (service : Service) (user : Kept) (bit : ℕ) → Counts service bit → Hears card loan service user → card .link .reset ≡ true
-    → bit ≡ card .link .fcb → Answers card loan (card .link .remembered) order.NoOrder (card .link) (m .gap card loan)
+    → bit ≡ card .link .fcb → Answers card loan (card .link .remembered) order.NoOrder (card .link) (gap card loan)
 
 -- user data or a collection heard with a new FCB, after a reset
 pub record Afresh (card : Card) (loan : Loan) (service : Service) (user : Kept) (bit : ℕ) : Type 0 where
@@ -137,10 +137,10 @@ pub record Afresh (card : Card) (loan : Loan) (service : Service) (user : Kept) 
   pub new : bit ≡ card .link .fcb → ⊥
 
 -- "FCB new: it becomes the last, the reply becomes the remembered one." The first half is `CountBit`
-abbrev pub NewNoted : Calls → Type 0
-NewNoted m =
+abbrev pub NewNoted : GapCall → Type 0
+NewNoted gap =
     (card : Card) (loan : Loan) (service : Service) (user : Kept) (bit : ℕ) → Counts service bit → Afresh card loan service user bit
-    → Replies loan (m .gap card loan .state .link .remembered) (m .gap card loan .answer)
+    → Replies loan (gap card loan .state .link .remembered) (gap card loan .answer)
 
 -- replies wait
 abbrev pub repliesWait : Card → Bool
@@ -163,9 +163,9 @@ pub record DataTaken (card : Card) (loan : Loan) (user : Kept) (bit : ℕ) (x : 
       (linkWith bit (carriedAt card loan user .session) (ack loan) (carriedAt card loan user .pending)) x
   pub times : nackDue card user ≡ false → x .answer .time ≡ carriedAt card loan user .time
 
-abbrev pub NewData : Calls → Type 0
-NewData m =
-    (card : Card) (loan : Loan) (user : Kept) (bit : ℕ) → Afresh card loan (UserData bit) user bit → DataTaken card loan user bit (m .gap card loan)
+abbrev pub NewData : GapCall → Type 0
+NewData gap =
+    (card : Card) (loan : Loan) (user : Kept) (bit : ℕ) → Afresh card loan (UserData bit) user bit → DataTaken card loan user bit (gap card loan)
 
 -- the next waiting reply, from the image lent, and what waits behind it
 abbrev pub nextAt : Card → Loan → Next
@@ -181,9 +181,9 @@ pub record Collects (card : Card) (loan : Loan) (bit : ℕ) (x : Stepped Card Se
   pub else-next : repliesWait card ≡ true
       → Answers card loan (replyAt card loan) order.NoOrder (linkWith bit (card .link .session) (replyAt card loan) (nextAt card loan .pending)) x
 
-abbrev pub NewCollection : Calls → Type 0
-NewCollection m =
-    (card : Card) (loan : Loan) (user : Kept) (bit : ℕ) → Afresh card loan (Collection bit) user bit → Collects card loan bit (m .gap card loan)
+abbrev pub NewCollection : GapCall → Type 0
+NewCollection gap =
+    (card : Card) (loan : Loan) (user : Kept) (bit : ℕ) → Afresh card loan (Collection bit) user bit → Collects card loan bit (gap card loan)
 
 -- the request in a frame's user octets
 abbrev pub requestIn : Kept → Request
@@ -204,11 +204,11 @@ pub data Ordered (card : Card) (loan : Loan) : Order → List ℕ → Type 0 whe
   sets-dates : (user : Kept) (bit : ℕ) → Carries card loan user bit 186 Accepted → Ordered card loan order.SetDates (drop 6 (octetsOf user))
 
 -- each such request gives its order, and no other gap gives any
-pub record Orders (m : Calls) : Type 0 where
+pub record Orders (gap : GapCall) : Type 0 where
   pub so : (card : Card) (loan : Loan) {its-order : Order} {time : List ℕ} → Ordered card loan its-order time
-      → (m .gap card loan .answer .order ≡ its-order) × (m .gap card loan .answer .time ≡ time)
+      → (gap card loan .answer .order ≡ its-order) × (gap card loan .answer .time ≡ time)
   pub only-so : (card : Card) (loan : Loan)
-      → Ordered card loan (m .gap card loan .answer .order) (m .gap card loan .answer .time) ⊎ ((m .gap card loan .answer .order ≡ order.NoOrder) × (m .gap card loan .answer .time ≡ noTime))
+      → Ordered card loan (gap card loan .answer .order) (gap card loan .answer .time) ⊎ ((gap card loan .answer .order ≡ order.NoOrder) × (gap card loan .answer .time ≡ noTime))
 
 -- what changes the session, and to which
 pub data Changes (card : Card) (loan : Loan) : Session → Type 0 where
@@ -218,30 +218,30 @@ pub data Changes (card : Card) (loan : Loan) : Session → Type 0 where
   by-187 : (user : Kept) (bit : ℕ) → Carries card loan user bit 187 Accepted → Changes card loan Closed
 
 -- "183: right password opens the session for that point, replacing any other; a wrong one gives P/N 1 and closes the session." 187: "session closed".
--- Whatever is heard, and whatever is refused, no other gap changes the session. That no octet does is condition 1's `octet-link-kept`
-pub record Sessions (m : Calls) : Type 0 where
-  pub so : (card : Card) (loan : Loan) {session : Session} → Changes card loan session → m .gap card loan .state .link .session ≡ session
+-- Whatever is heard, and whatever is refused, no other gap changes the session. That no character does is condition 1's `character-link-kept`
+pub record Sessions (gap : GapCall) : Type 0 where
+  pub so : (card : Card) (loan : Loan) {session : Session} → Changes card loan session → gap card loan .state .link .session ≡ session
   pub only-so : (card : Card) (loan : Loan)
-      → Changes card loan (m .gap card loan .state .link .session) ⊎ (m .gap card loan .state .link .session ≡ card .link .session)
+      → Changes card loan (gap card loan .state .link .session) ⊎ (gap card loan .state .link .session ≡ card .link .session)
 
 -- "Refused by 14, 15 or 16 it changes none": a 183, or any other message
-abbrev pub Refused183 : Calls → Type 0
-Refused183 m =
+abbrev pub Refused183 : GapCall → Type 0
+Refused183 gap =
     (card : Card) (loan : Loan) (user : Kept) (bit type : ℕ) (rule : Rule) → Carries card loan user bit type rule → 14 ≤ causeBy rule → causeBy rule ≤ 16
-    → m .gap card loan .state .link .session ≡ card .link .session
+    → gap card loan .state .link .session ≡ card .link .session
 
 -- all of them
-pub record Rules (m : Calls) : Type 0 where
-  pub resets : ResetCloses m
-  pub keeps-at-status : StatusKeeps m
-  pub refuses-unreset : UnresetRefused m
-  pub repeats : EqualRepeats m
-  pub notes : NewNoted m
-  pub takes-data : NewData m
-  pub collects : NewCollection m
-  pub orders : Orders m
-  pub sessions : Sessions m
-  pub keeps-refused : Refused183 m
+pub record Rules (gap : GapCall) : Type 0 where
+  pub resets : ResetCloses gap
+  pub keeps-at-status : StatusKeeps gap
+  pub refuses-unreset : UnresetRefused gap
+  pub repeats : EqualRepeats gap
+  pub notes : NewNoted gap
+  pub takes-data : NewData gap
+  pub collects : NewCollection gap
+  pub orders : Orders gap
+  pub sessions : Sessions gap
+  pub keeps-refused : Refused183 gap
 
 -- "no session and type not 183, 14; .. session of another point and type not 183, 14": what is accepted and is no 183 stands in the session of its point
 abbrev pub DataInSession : Type 0

@@ -11,9 +11,9 @@ use Rattle.rules.specs.declared.Session.the-variants.{Closed}
 use Rattle.deeds.specs.declared.Order.the-variants.{SetClock}
 use Rattle.deeds.specs.Deeds.{nothingPending}
 use Rattle.card.specs.declared.Card.{Card}
-use Rattle.tender.specs.Card.{Calls, ours}
+use Rattle.tender.specs.Card.{GapCall, ourGap}
 use Rattle.tender.specs.Cases.{says}
-use Rattle.tender.specs.Wrong.{withGap, linkedBy, inSession, awaiting, leaving}
+use Rattle.tender.specs.Wrong.{linkedBy, inSession, awaiting, gapLeaving}
 use Rattle.tender.specs.Rules.{nothingToGive}
 
 -- an octet of the run: at 1 a fixed frame has C, at 7 a variable one the type of its message
@@ -28,27 +28,24 @@ abbrev pub withSession : Session → Card → Card
 withSession session card = linkedBy (inSession session (card .link)) card
 
 -- a status closes the session
-abbrev pub closingAtStatus : Calls
-closingAtStatus = leaving (λ card loan seen left. if eqb (octetAt 1 card) 0x49 then withSession Closed left else left) .calls
+abbrev pub closingAtStatus : GapCall
+closingAtStatus = gapLeaving (λ card loan seen left. if eqb (octetAt 1 card) 0x49 then withSession Closed left else left)
 
 -- a NACK, whose control octet stands in the buffer, drops what waits
-abbrev pub droppingAtNack : Calls
+abbrev pub droppingAtNack : GapCall
 droppingAtNack =
-    leaving (λ card loan seen left. if eqb (getD (seen .buffer) 1 0) 0x01 then linkedBy (awaiting nothingPending (left .link)) left else left) .calls
+    gapLeaving (λ card loan seen left. if eqb (getD (seen .buffer) 1 0) 0x01 then linkedBy (awaiting nothingPending (left .link)) left else left)
 
 -- a collection gets 09, whatever waits
-abbrev pub givingNothing : Calls
-givingNothing =
-    withGap (λ card loan.
-    if isCollection card then says (ours .gap card loan .state) 0 (replyOctets (nothingToGive loan)) (loan .buffer) else
-    ours .gap card loan)
-    .calls
+abbrev pub givingNothing : GapCall
+givingNothing card loan =
+    if isCollection card then says (ourGap card loan .state) 0 (replyOctets (nothingToGive loan)) (loan .buffer) else
+    ourGap card loan
 
 -- a 181 sets the clock, also when it is repeated
-abbrev pub orderingAgain : Calls
-orderingAgain =
-    withGap (λ card loan.
-    let x = ours .gap card loan in
+abbrev pub orderingAgain : GapCall
+orderingAgain card loan =
+    let x = ourGap card loan in
     record {
       state = x .state;
       answer =
@@ -59,13 +56,12 @@ orderingAgain =
             time = x .answer .time;
             buffer = x .answer .buffer;
           };
-    })
-    .calls
+    }
 
 -- a 187 leaves the session open
-abbrev pub stayingOpen : Calls
-stayingOpen = leaving (λ card loan seen left. if eqb (octetAt 7 card) 187 then withSession (card .link .session) left else left) .calls
+abbrev pub stayingOpen : GapCall
+stayingOpen = gapLeaving (λ card loan seen left. if eqb (octetAt 7 card) 187 then withSession (card .link .session) left else left)
 
 -- a collection closes the session
-abbrev pub closingAtCollection : Calls
-closingAtCollection = leaving (λ card loan seen left. if isCollection card then withSession Closed left else left) .calls
+abbrev pub closingAtCollection : GapCall
+closingAtCollection = gapLeaving (λ card loan seen left. if isCollection card then withSession Closed left else left)

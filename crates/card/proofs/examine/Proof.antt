@@ -1,7 +1,7 @@
 -- `examine` answers what the run in a collector is to this card.
--- By whether the collector is overfull. Assumes nothing.
+-- By whether the collector is overfull, or marked. Assumes nothing.
 use mathlib.Core.Path.{_∙_}
-use Rattle.card.proofs.Examining.{overfull-examined, run-examined}
+use Rattle.card.proofs.Examining.{overfull-examined, marked-examined, run-examined}
 use borrow.Author.Needs.{needs}
 use Rattle.card.proofs.examine.Statement.{statement}
 use Rattle.card.proofs.examine.Tie as tie
@@ -15,6 +15,15 @@ found-requires c κs = search needs
 returns : tie.Need-returns
 returns c = c .found .ensures ∙ overfull-examined _ _ (search needs)
 
+fault-of-marked-requires : tie.Need-fault-of-marked-requires
+fault-of-marked-requires c κs = search needs
+
+found-requires-2 : tie.Need-found-requires-2
+found-requires-2 c κs = search needs
+
+returns-2 : tie.Need-returns-2
+returns-2 c = c .found2 .ensures ∙ marked-examined _ _ _ (search needs) (search needs) (search needs) (c .before .fault-of-marked .ensures)
+
 slice-aggregate-part : tie.Need-slice-aggregate-part
 slice-aggregate-part c = search needs
 
@@ -27,8 +36,8 @@ part-requires c κs = search needs
 examine-run-requires : tie.Need-examine-run-requires
 examine-run-requires c κs = search needs
 
-returns-2 : tie.Need-returns-2
-returns-2 c = c .examine-run .ensures ∙ run-examined _ _ _ (search needs) (c .before .part .ensures)
+returns-3 : tie.Need-returns-3
+returns-3 c = c .examine-run .ensures ∙ run-examined _ _ _ (search needs) (search needs) (c .before .part .ensures)
 
 pub examine-spec : {M : Type 1} → statement M
 examine-spec =
@@ -37,8 +46,11 @@ examine-spec =
     cast-if1
     found-requires
     returns
+    fault-of-marked-requires
+    found-requires-2
+    returns-2
     slice-aggregate-part
     cast-part
     part-requires
     examine-run-requires
-    returns-2)
+    returns-3)

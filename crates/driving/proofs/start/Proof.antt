@@ -9,12 +9,12 @@ use Rattle.driving.proofs.start.Tie as tie
 power-on-requires : tie.Need-power-on-requires
 power-on-requires c κs = search needs
 
-cast-t3 : tie.Need-cast-t3
-cast-t3 c = search needs
+cast-t4 : tie.Need-cast-t4
+cast-t4 c = search needs
 
 returns : tie.Need-returns
 unfolding atStart heldOf
 returns c = rw (c .power-on .ensures)
 
 pub start-spec : {M : Type 1} → statement M
-start-spec = tie.close (tie.spec power-on-requires cast-t3 returns)
+start-spec = tie.close (tie.spec power-on-requires cast-t4 returns)

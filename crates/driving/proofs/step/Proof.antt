@@ -1,8 +1,9 @@
 -- `step` does a call.
 -- By what the call is found to be. Assumes nothing.
 use borrow.Author.Needs.{needs}
+use Rattle.card.proofs.State.{sent-all}
 use Rattle.input.specs.declared.Call.the-variants as call
-use Rattle.driving.specs.Driven.{withImage, withClock, withRoom, withCard, afterCall}
+use Rattle.driving.specs.Driven.{withImage, withClock, withRoom, withCard, withProfile, afterCall}
 use Rattle.driving.specs.Stepped.{benchOf}
 use Rattle.driving.proofs.Stepping.{rest-all, last-stepped, silent-stepped, call-stepped}
 use Rattle.driving.proofs.step.Statement.{statement}
@@ -77,6 +78,27 @@ silent-requires-4 c κs = search needs
 enum-told-8 : tie.Need-enum-told-8
 enum-told-8 c = search needs
 
+power-on-requires : tie.Need-power-on-requires
+power-on-requires c κs = search needs
+
+silent-requires-5 : tie.Need-silent-requires-5
+silent-requires-5 c κs = search needs
+
+enum-told-9 : tie.Need-enum-told-9
+enum-told-9 c = search needs
+
+part-requires-2 : tie.Need-part-requires-2
+part-requires-2 c κs = search needs
+
+pair-by-pair-requires : tie.Need-pair-by-pair-requires
+pair-by-pair-requires c κs = search needs
+
+silent-requires-6 : tie.Need-silent-requires-6
+silent-requires-6 c κs = search needs
+
+enum-told-10 : tie.Need-enum-told-10
+enum-told-10 c = search needs
+
 gap-requires : tie.Need-gap-requires
 gap-requires c κs = search needs
 
@@ -84,52 +106,73 @@ same-length : tie.Need-same-length
 same-length c = search needs
 
 returns : tie.Need-returns
-unfolding afterCall
+unfolding afterCall benchOf
 returns c =
-    call-stepped _ _ _ call.End (c .before .before .before .before .before .before .before .judge-call .ensures)
+    let a = c .before .before .before .before .before .before .before .before .before .before .before .before .before .before .args in
+    call-stepped _ (benchOf (a .held) (a .image .now) (a .buffer .now)) _ call.End (c .before .before .before .before .before .before .before .judge-call .ensures)
     (c .before .before .before .before .before .enum-told .given .1) (last-stepped _ _ _ _ _ (c .before .before .last .ensures))
 
 same-length-2 : tie.Need-same-length-2
 same-length-2 c = search needs
 
 returns-2 : tie.Need-returns-2
-unfolding afterCall
+unfolding afterCall benchOf
 returns-2 c =
-    call-stepped _ _ _ call.Cut (c .before .before .before .before .before .before .before .judge-call .ensures)
+    let a = c .before .before .before .before .before .before .before .before .before .before .before .before .before .before .args in
+    call-stepped _ (benchOf (a .held) (a .image .now) (a .buffer .now)) _ call.Cut (c .before .before .before .before .before .before .before .judge-call .ensures)
     (c .before .before .before .before .before .enum-told2 .given .1) (last-stepped _ _ _ _ _ (c .before .before .last2 .ensures))
 
 same-length-3 : tie.Need-same-length-3
 same-length-3 c = search needs
 
 returns-3 : tie.Need-returns-3
-unfolding afterCall
+unfolding afterCall benchOf
 returns-3 c =
-    call-stepped _ _ _ call.Wrong (c .before .before .before .before .before .before .before .judge-call .ensures)
+    let a = c .before .before .before .before .before .before .before .before .before .before .before .before .before .before .args in
+    call-stepped _ (benchOf (a .held) (a .image .now) (a .buffer .now)) _ call.Wrong (c .before .before .before .before .before .before .before .judge-call .ensures)
     (c .before .before .before .before .before .enum-told3 .given .1) (last-stepped _ _ _ _ _ (c .before .before .last3 .ensures))
 
 returns-4 : tie.Need-returns-4
 unfolding afterCall benchOf withImage
 returns-4 c =
-    call-stepped _ _ _ call.Image (c .before .before .before .judge-call .ensures) (c .before .enum-told4 .given .1)
+    let a = c .before .before .before .before .before .before .before .before .before .before .args in
+    call-stepped _ (benchOf (a .held) (a .image .now) (a .buffer .now)) _ call.Image (c .before .before .before .judge-call .ensures) (c .before .enum-told4 .given .1)
     (silent-stepped _ _ (c .silent .ensures))
 
 returns-5 : tie.Need-returns-5
 unfolding afterCall benchOf withClock
 returns-5 c =
-    call-stepped _ _ _ call.Clock (c .before .before .before .before .judge-call .ensures) (c .before .before .enum-told5 .given .1)
+    let a = c .before .before .before .before .before .before .before .before .before .before .before .args in
+    call-stepped _ (benchOf (a .held) (a .image .now) (a .buffer .now)) _ call.Clock (c .before .before .before .before .judge-call .ensures) (c .before .before .enum-told5 .given .1)
     (silent-stepped _ _ (rw (c .before .clock-at .ensures) at (c .silent2 .ensures)))
 
 returns-6 : tie.Need-returns-6
 unfolding afterCall benchOf withRoom
 returns-6 c =
-    call-stepped _ _ _ call.Room (c .before .before .before .before .judge-call .ensures) (c .before .before .enum-told6 .given .1)
+    let a = c .before .before .before .before .before .before .before .before .before .before .before .args in
+    call-stepped _ (benchOf (a .held) (a .image .now) (a .buffer .now)) _ call.Room (c .before .before .before .before .judge-call .ensures) (c .before .before .enum-told6 .given .1)
     (silent-stepped _ _ (rw (c .before .length-of-2 .ensures) at (c .silent3 .ensures)))
 
 returns-7 : tie.Need-returns-7
 unfolding afterCall benchOf withCard
 returns-7 c =
-    call-stepped _ _ _ call.Octets (c .before .before .before .before .before .judge-call .ensures) (c .before .before .before .enum-told7 .given .1)
-    (silent-stepped _ _ (rw (c .before .octet-by-octet .ensures, c .before .before .part .ensures, rest-all) at (c .silent4 .ensures)))
+    let a = c .before .before .before .before .before .before .before .before .before .before .before .before .args in
+    call-stepped _ (benchOf (a .held) (a .image .now) (a .buffer .now)) _ call.Octets (c .before .before .before .before .before .judge-call .ensures) (c .before .before .before .enum-told7 .given .1)
+    (silent-stepped _ _ (rw (c .before .octet-by-octet .ensures, c .before .before .part .ensures, rest-all, ← sent-all (a .held .profile)) at (c .silent4 .ensures)))
+
+returns-8 : tie.Need-returns-8
+unfolding afterCall benchOf withCard withProfile
+returns-8 c =
+    let a = c .before .before .before .before .before .before .before .before .before .before .before .args in
+    call-stepped _ (benchOf (a .held) (a .image .now) (a .buffer .now)) _ call.ElevenBits (c .before .before .before .before .judge-call .ensures) (c .before .before .enum-told8 .given .1)
+    (silent-stepped _ _ (rw (c .before .power-on .ensures) at (c .silent5 .ensures)))
+
+returns-9 : tie.Need-returns-9
+unfolding afterCall benchOf withCard
+returns-9 c =
+    let a = c .before .before .before .before .before .before .before .before .before .before .before .before .args in
+    call-stepped _ (benchOf (a .held) (a .image .now) (a .buffer .now)) _ call.Characters (c .before .before .before .before .before .judge-call .ensures) (c .before .before .before .enum-told9 .given .1)
+    (silent-stepped _ _ (rw (c .before .pair-by-pair .ensures, c .before .before .part2 .ensures, rest-all) at (c .silent6 .ensures)))
 
 same-length-4 : tie.Need-same-length-4
 same-length-4 c = search needs
@@ -137,11 +180,12 @@ same-length-4 c = search needs
 same-length-5 : tie.Need-same-length-5
 same-length-5 c = search needs
 
-returns-8 : tie.Need-returns-8
-unfolding afterCall
-returns-8 c =
-    call-stepped _ _ _ call.Gap (c .before .before .before .before .before .before .before .before .before .judge-call .ensures)
-    (c .before .before .before .before .before .before .before .enum-told8 .given .1) (c .before .before .before .before .gap .ensures)
+returns-10 : tie.Need-returns-10
+unfolding afterCall benchOf
+returns-10 c =
+    let a = c .before .before .before .before .before .before .before .before .before .before .before .before .before .before .before .before .args in
+    call-stepped _ (benchOf (a .held) (a .image .now) (a .buffer .now)) _ call.Gap (c .before .before .before .before .before .before .before .before .before .judge-call .ensures)
+    (c .before .before .before .before .before .before .before .enum-told10 .given .1) (c .before .before .before .before .gap .ensures)
 
 pub step-spec : {M : Type 1} → statement M
 step-spec =
@@ -170,6 +214,13 @@ step-spec =
     octet-by-octet-requires
     silent-requires-4
     enum-told-8
+    power-on-requires
+    silent-requires-5
+    enum-told-9
+    part-requires-2
+    pair-by-pair-requires
+    silent-requires-6
+    enum-told-10
     gap-requires
     same-length
     returns
@@ -181,6 +232,8 @@ step-spec =
     returns-5
     returns-6
     returns-7
+    returns-8
+    returns-9
     same-length-4
     same-length-5
-    returns-8)
+    returns-10)

@@ -1,7 +1,7 @@
 -- `call_size` answers how many octets a call has.
 -- By its letter, and by the length behind it. Assumes nothing.
 use borrow.Author.Tests.{le-ltb}
-use Rattle.octets.proofs.Choice.{tests}
+use Rattle.octets.proofs.Choice.{tests, told}
 use Rattle.input.specs.Input.{callSize}
 use borrow.Author.Needs.{needs}
 use Rattle.input.proofs.call_size.Statement.{statement}
@@ -56,9 +56,42 @@ returns-7 : tie.Need-returns-7
 unfolding callSize
 returns-7 c = rw (← (c .length-of-2 .ensures), ← (c .before .before .before .before .before .before .octet-at .ensures)) (search tests)
 
+takes-characters-requires : tie.Need-takes-characters-requires
+takes-characters-requires c κs = search needs
+
 returns-8 : tie.Need-returns-8
 unfolding callSize
-returns-8 c = rw (← (c .before .before .before .before .octet-at .ensures)) (search tests)
+returns-8 c =
+    rw (← (c .before .before .before .before .before .before .before .octet-at .ensures), told (c .before .before .takes-characters .ensures) (c .before .if8 .taken))
+    (search (tests, c .before .before .before .if6 .left, c .before .before .before .before .if5 .left, c .before .before .before .before .before .if4 .left, c .before .before .before .before .before .before .if1 .left))
+
+length-of-2-requires-2 : tie.Need-length-of-2-requires-2
+length-of-2-requires-2 c κs = search needs
+
+cast-result-3 : tie.Need-cast-result-3
+cast-result-3 c = search needs
+
+mul-result : tie.Need-mul-result
+mul-result c = search needs
+
+add-result-3 : tie.Need-add-result-3
+add-result-3 c = search needs
+
+returns-9 : tie.Need-returns-9
+unfolding callSize
+returns-9 c =
+    rw (
+      ← (c .length-of-22 .ensures),
+      ← (c .before .before .before .before .before .before .before .before .octet-at .ensures),
+      told (c .before .before .before .takes-characters .ensures) (c .before .before .if8 .taken),
+    )
+    (search (tests, c .before .before .before .before .if6 .left, c .before .before .before .before .before .if5 .left, c .before .before .before .before .before .before .if4 .left, c .before .before .before .before .before .before .before .if1 .left))
+
+returns-10 : tie.Need-returns-10
+unfolding callSize
+returns-10 c =
+    rw (← (c .before .before .before .before .before .before .octet-at .ensures), told (c .before .takes-characters .ensures) (c .if8 .left))
+    (search (tests, c .before .before .if6 .left, c .before .before .before .if5 .left, c .before .before .before .before .if4 .left, c .before .before .before .before .before .if1 .left))
 
 pub call-size-spec : {M : Type 1} → statement M
 call-size-spec =
@@ -78,4 +111,11 @@ call-size-spec =
     cast-result-2
     add-result-2
     returns-7
-    returns-8)
+    takes-characters-requires
+    returns-8
+    length-of-2-requires-2
+    cast-result-3
+    mul-result
+    add-result-3
+    returns-9
+    returns-10)

@@ -1,8 +1,9 @@
 -- `whole_call` answers what a whole call is.
 -- By its letter, and by the length behind it. Assumes nothing.
 use borrow.Author.Tests.{le-ltb}
-use Rattle.octets.proofs.Choice.{tests}
+use Rattle.octets.proofs.Choice.{tests, told}
 use Rattle.input.specs.Input.{wholeCall}
+use Rattle.input.proofs.Pairs.{bits-told}
 use borrow.Author.Needs.{needs}
 use Rattle.input.proofs.whole_call.Statement.{statement}
 use Rattle.input.proofs.whole_call.Tie as tie
@@ -44,9 +45,38 @@ returns-7 : tie.Need-returns-7
 unfolding wholeCall
 returns-7 c = rw (← (c .before .before .before .before .before .octet-at .ensures)) (search tests)
 
+takes-characters-requires : tie.Need-takes-characters-requires
+takes-characters-requires c κs = search needs
+
+part-requires : tie.Need-part-requires
+part-requires c κs = search needs
+
+are-bits-requires : tie.Need-are-bits-requires
+are-bits-requires c κs = search needs
+
 returns-8 : tie.Need-returns-8
 unfolding wholeCall
-returns-8 c = rw (← (c .before .before .before .before .before .octet-at .ensures)) (search tests)
+returns-8 c =
+    rw (← (c .before .before .before .before .before .before .before .before .before .before .octet-at .ensures), told (c .before .before .before .before .takes-characters .ensures) (c .before .before .before .if8 .taken), bits-told (c .before .before .before .before .before .before .before .before .before .before .before .before .args .read .now) 3 (c .before .before .part .ensures) (c .before .are-bits .ensures) (c .if9 .taken))
+    (search (tests, c .before .before .before .before .before .if7 .left, c .before .before .before .before .before .before .if6 .left, c .before .before .before .before .before .before .before .if4 .left, c .before .before .before .before .before .before .before .before .if3 .left, c .before .before .before .before .before .before .before .before .before .if1 .left))
+
+returns-9 : tie.Need-returns-9
+unfolding wholeCall
+returns-9 c =
+    rw (← (c .before .before .before .before .before .before .before .before .before .before .octet-at .ensures), told (c .before .before .before .before .takes-characters .ensures) (c .before .before .before .if8 .taken), bits-told (c .before .before .before .before .before .before .before .before .before .before .before .before .args .read .now) 3 (c .before .before .part .ensures) (c .before .are-bits .ensures) (c .if9 .left))
+    (search (tests, c .before .before .before .before .before .if7 .left, c .before .before .before .before .before .before .if6 .left, c .before .before .before .before .before .before .before .if4 .left, c .before .before .before .before .before .before .before .before .if3 .left, c .before .before .before .before .before .before .before .before .before .if1 .left))
+
+returns-10 : tie.Need-returns-10
+unfolding wholeCall
+returns-10 c =
+    rw (← (c .before .before .before .before .before .before .before .before .octet-at .ensures), told (c .before .before .takes-characters .ensures) (c .before .if8 .left))
+    (search (tests, c .before .before .before .if7 .left, c .before .before .before .before .if6 .left, c .before .before .before .before .before .if4 .left, c .before .before .before .before .before .before .if3 .left, c .before .before .before .before .before .before .before .if1 .left))
+
+returns-11 : tie.Need-returns-11
+unfolding wholeCall
+returns-11 c =
+    rw (← (c .before .before .before .before .before .before .before .before .octet-at .ensures), told (c .before .before .takes-characters .ensures) (c .before .if8 .left))
+    (search (tests, c .before .before .before .if7 .left, c .before .before .before .before .if6 .left, c .before .before .before .before .before .if4 .left, c .before .before .before .before .before .before .if3 .left, c .before .before .before .before .before .before .before .if1 .left))
 
 pub whole-call-spec : {M : Type 1} → statement M
 whole-call-spec =
@@ -62,4 +92,10 @@ whole-call-spec =
     returns-5
     returns-6
     returns-7
-    returns-8)
+    takes-characters-requires
+    part-requires
+    are-bits-requires
+    returns-8
+    returns-9
+    returns-10
+    returns-11)

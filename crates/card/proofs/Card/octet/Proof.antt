@@ -1,6 +1,6 @@
 -- `Card::octet` answers the card with an octet more.
 -- By its parts. Assumes nothing.
-use Rattle.card.specs.State.{withOctet}
+use Rattle.card.specs.State.{withCharacter}
 use borrow.Author.Needs.{needs}
 use Rattle.card.proofs.Card.octet.Statement.{statement}
 use Rattle.card.proofs.Card.octet.Tie as tie
@@ -12,7 +12,7 @@ collecting-requires : tie.Need-collecting-requires
 collecting-requires c κs = search needs
 
 returns : tie.Need-returns
-unfolding withOctet
+unfolding withCharacter
 returns c = rw (c .collecting .ensures, c .before .with .ensures)
 
 pub octet-spec : {M : Type 1} → statement M

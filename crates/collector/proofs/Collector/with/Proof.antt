@@ -1,7 +1,7 @@
 -- `Collector::with` answers the collector with an octet more.
 -- By whether there is room. Assumes nothing.
 use Rattle.octets.proofs.Choice.{tests}
-use Rattle.collector.specs.Collecting.{collected}
+use Rattle.collector.specs.Collecting.{collectedIn}
 use borrow.Author.Needs.{needs}
 use Rattle.collector.proofs.Collector.with.Statement.{statement}
 use Rattle.collector.proofs.Collector.with.Tie as tie
@@ -19,14 +19,14 @@ cast-next : tie.Need-cast-next
 cast-next c = search needs
 
 returns : tie.Need-returns
-unfolding collected
+unfolding collectedIn
 returns c = search tests
 
 overfull-requires : tie.Need-overfull-requires
 overfull-requires c κs = search needs
 
 returns-2 : tie.Need-returns-2
-unfolding collected
+unfolding collectedIn
 returns-2 c = rw (c .overfull .ensures) (search tests)
 
 pub with-spec : {M : Type 1} → statement M

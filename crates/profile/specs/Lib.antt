@@ -1,0 +1,3 @@
+pub mod Character
+pub mod Profile
+pub mod Altered
