@@ -1,8 +1,8 @@
 -- A sound frame of the eleven-bit profile in which one, two or three bits were altered is not sound.
 -- A bit altered makes the number of ones odd where it was even, in its character and in the whole run. So one or three bits spoil the parity somewhere. Two
 -- spoil it unless they lie in one character; then that octet alone is another, and a sound frame with one octet changed is not sound. Assumes nothing.
-use Prim.Native.Nat.{ℕ, zero, suc, _+_, _%_, _≤_, _<_}
-use mathlib.Core.Bool.{Bool, true, false, not, _||_}
+use Prim.Native.Nat.{ℕ, zero, suc, _+_, _-_, _%_, _≤_, _<_}
+use mathlib.Core.Bool.{Bool, true, false, not, _&&_, _||_, false≢true}
 use mathlib.Core.List.{List, [], _∷_, map}
 use mathlib.Core.Path.{_≡_, refl, sym, ap, _∙_}
 use native.Mathlib.Omega.{arith}
@@ -113,6 +113,41 @@ module _ (c : Character) (o : c .octet < 256) where
       by-bits (yes low) (no high) = rw (lt-ltb bit 8 low, le-ltb other 8 (omega arith)) (bit-other bit (c .octet) low o)
       by-bits (no high) (yes low) = rw (le-ltb bit 8 (omega arith), lt-ltb other 8 low) (bit-other other (c .octet) low o)
       by-bits (no high) (no high′) = absurd (apart (omega arith))
+
+-- What is altered is that bit of the nine and no other: so `withBitOf` says what it means. Computed over nine bits of 256 octets with either parity bit
+abbrev sameBits : List ℕ → List ℕ → Bool
+sameBits [] [] = true
+sameBits [] (y ∷ ys) = false
+sameBits (x ∷ xs) [] = false
+sameBits (x ∷ xs) (y ∷ ys) = eqb x y && sameBits xs ys
+
+same-bits : (xs ys : List ℕ) → sameBits xs ys ≡ true → xs ≡ ys
+same-bits [] [] t = refl
+same-bits [] (y ∷ ys) t = absurd (false≢true t)
+same-bits (x ∷ xs) [] t = absurd (false≢true t)
+same-bits (x ∷ xs) (y ∷ ys) t =
+    ap (λ (n : ℕ). n ∷ xs) (eqb-true x y (and-left (eqb x y) (sameBits xs ys) t))
+    ∙ ap (λ (l : List ℕ). y ∷ l) (same-bits xs ys (and-right (eqb x y) (sameBits xs ys) t))
+
+-- the nine bits with one of them the other way round
+abbrev flippedAt : ℕ → List ℕ → List ℕ
+flippedAt bit bits = set bits bit (1 - getD bits bit 0)
+
+abbrev altersOne : Bool → ℕ → ℕ → Bool
+altersOne parity bit octet =
+    let c : Character = record { octet = octet; parity = parity } in
+    sameBits (bitsOf (withBitOf bit c)) (flippedAt bit (bitsOf c))
+
+all-pass : (parity : Bool) → passAll (λ m. octets-pass (altersOne parity m)) 0 9 ≡ true
+unfolding bitsOf lowBits withBit withBitOf
+all-pass true = refl
+all-pass false = refl
+
+pub one-bit-alone : (bit : ℕ) (c : Character) → bit < 9 → c .octet < 256 → bitsOf (withBitOf bit c) ≡ flippedAt bit (bitsOf c)
+one-bit-alone bit c b o = same-bits _ _ (by-parity (c .parity))
+  where
+    by-parity : (parity : Bool) → altersOne parity bit (c .octet) ≡ true
+    by-parity parity = at-each (altersOne parity bit) 256 (at-each (λ (m : ℕ). octets-pass (altersOne parity m)) 9 (all-pass parity) bit b) (c .octet) o
 
 -- of a run
 pub map-set : {A B : Type 0} (f : A → B) (l : List A) (i : ℕ) (y : A) → map f (set l i y) ≡ set (map f l) i (f y)
