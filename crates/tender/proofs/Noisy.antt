@@ -115,8 +115,15 @@ ten-count : endOf (ourCard Ten) noisy .damaged ≡ 4
 unfolding everything
 ten-count = refl
 
+ten-quiet-count : endOf (ourCard Ten) quiet .damaged ≡ 0
+unfolding everything
+ten-quiet-count = refl
+
 pub noisy-answers : (p : Profile) → answersOf (ourCard p) (sent p noisy) ≡ unanswered 2 ∷ unanswered 3 ∷ ack ∷ unanswered 4 ∷ unanswered 4 ∷ []
 noisy-answers p = sent-answers ourCard p (ours-takes p) noisy ∙ ten-answers
+
+pub quiet-count : (p : Profile) → endOf (ourCard p) (sent p quiet) .damaged ≡ 0
+quiet-count p = ap (λ (card : Card). card .damaged) (sent-end ourCard p (ours-takes p) quiet) ∙ ten-quiet-count
 
 pub noisy-count : (p : Profile) → endOf (ourCard p) (sent p noisy) .damaged ≡ 4
 noisy-count p = ap (λ (card : Card). card .damaged) (sent-end ourCard p (ours-takes p) noisy) ∙ ten-count
