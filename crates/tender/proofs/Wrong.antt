@@ -246,7 +246,7 @@ overlooks-the-parity c = omega (arith, other-number c)
     other-number : Condition2 blind → _≡_ {A = ℕ} 0 10
     other-number c = ap firstNumber (c .as-defined (closedRun stained lent []))
 
--- and so say the statements of #104, whatever the definition: it is answered, or a spoiled frame without a wrong parity bit gets a 10
+-- the statements of #104 shut it out whatever the definition says of parity; and a card that calls a spoiled frame with right parity bits 10
 stained-wrong : WrongAt stained 1
 stained-wrong = record { within = omega arith; odd = refl }
 

@@ -191,7 +191,7 @@ hasty =
     let unmarked = ourGap (collecting (marking false (card .collector)) card) loan in
     if eqb (unmarked .answer .number) 3 then unmarked else ourGap card loan)
 
--- a damaged run is always a matter of parity: 10 for 3 and 4. Condition 3 lets it through, and `ElevenBits` or, with ten bits, `TenStays` does not
+-- a damaged run is always a matter of parity: 10 for 3 and 4, also with ten bits
 abbrev pub suspicious : WrongCard
 suspicious =
     butSays (λ loan seen.
