@@ -2,7 +2,7 @@
 -- noise. From the empty collector on a run is judged by its octets and by whether it is marked; and where it is not marked, it is collected as its octets are.
 -- Assumes nothing.
 use Prim.Native.Nat.{ℕ, suc, _%_, _≤_, _<_}
-use mathlib.Core.Bool.{true, false}
+use mathlib.Core.Bool.{Bool, true, false}
 use mathlib.Core.List.{List, [], _∷_, map}
 use mathlib.Core.Logic.{_⊎_, inl, inr}
 use mathlib.Core.Path.{_≡_, refl, sym, ap, _∙_}
@@ -11,6 +11,7 @@ use native.Mathlib.Omega.{arith}
 use borrow.Author.Tests.{eq-eqb, eqb-true}
 use lib.Dec.{ltb}
 use lib.ListN.{length, length-map, List·getD-map}
+use Rattle.octets.specs.Choice.{if_then_else_}
 use Rattle.octets.specs.First.{When, firstOf_else_}
 use Rattle.octets.specs.Sum.{octetSum}
 use Rattle.octets.proofs.Choice.{either, not-both, refuted}
@@ -19,7 +20,7 @@ use Rattle.history.specs.History.{Symbol, Gap, Call, AllFit, Each}
 use Rattle.history.proofs.Invariant.{Invariant, always, at-gaps}
 use Rattle.profile.specs.declared.Character.{Character}
 use Rattle.profile.specs.declared.Profile.the-variants.{Ten, Eleven}
-use Rattle.profile.specs.Character.{lowBits, bitsOf, evenParity}
+use Rattle.profile.specs.Character.{lowBits, bitOf, bitsOf, evenParity}
 use Rattle.profile.specs.Profile.{octetIn, octetsIn, areRight, runSent, judgeIn}
 use Rattle.profile.proofs.Altered.{few-some, few-altered}
 use Rattle.frame.specs.Family.{sapr}
@@ -46,9 +47,13 @@ use Rattle.tender.proofs.Condition3.{left-none}
 use Rattle.tender.proofs.Repeats.{fresh-empty}
 
 -- the ones by the papers' numbers of the bits are those of the definition
+parity-one : (t : Bool) → (if t then 1 else 0) ≡ bitOf t
+parity-one true = refl
+parity-one false = refl
+
 nine-ones : (x : Character) → nineOnes x ≡ octetSum (bitsOf x)
 unfolding bitsOf lowBits octetSum
-nine-ones x = simp div-div-eq-div-mul (omega arith)
+nine-ones x = rw (parity-one (x .parity)) (simp div-div-eq-div-mul (omega arith))
 
 odd-wrong : (x : Character) → nineOnes x % 2 ≡ 1 → evenParity x ≡ true → ⊥
 unfolding evenParity

@@ -10,12 +10,12 @@ use mathlib.Core.Logic.{_⊎_}
 use mathlib.Core.Path.{_≡_}
 use lib.ListN.{length, getD}
 use Rattle.octets.specs.Bits.{bits_to_of_}
+use Rattle.octets.specs.Choice.{if_then_else_}
 use Rattle.history.specs.History.{Stepped, AllFit, AtGaps}
 use Rattle.frame.specs.Family.{sapr}
 use Rattle.frame.specs.Frame.{Frame, sound}
 use Rattle.profile.specs.declared.Character.{Character}
 use Rattle.profile.specs.declared.Profile.the-variants.{Ten, Eleven}
-use Rattle.profile.specs.Character.{bitOf}
 use Rattle.profile.specs.Profile.{judgeIn}
 use Rattle.profile.specs.Altered.{FewAltered}
 use Rattle.collector.specs.Collecting.{emptied}
@@ -30,7 +30,7 @@ abbrev pub dataBit : ℕ → Character → ℕ
 dataBit n x = bits n to n of (x .octet)
 
 abbrev pub nineOnes : Character → ℕ
-nineOnes x = dataBit 1 x + dataBit 2 x + dataBit 3 x + dataBit 4 x + dataBit 5 x + dataBit 6 x + dataBit 7 x + dataBit 8 x + bitOf (x .parity)
+nineOnes x = dataBit 1 x + dataBit 2 x + dataBit 3 x + dataBit 4 x + dataBit 5 x + dataBit 6 x + dataBit 7 x + dataBit 8 x + (if x .parity then 1 else 0)
 
 -- the parity bit of the character at a place of a run, counted from 0, is wrong
 abbrev pub characterAt : List Character → ℕ → Character
