@@ -6,6 +6,7 @@
 
 #include "card.h"
 #include "face.h"
+#include "why.h"
 
 enum {
     DRIVE_IMAGE_MOST = 65600, /* more than an image may have, to be refused */
@@ -22,7 +23,7 @@ struct driving {
     uint8_t clock[LABEL_B_OCTETS];
     uint8_t buffer[DRIVE_BUFFER]; /* kept between gaps */
     size_t buffer_lent;
-    uint8_t given[CHARACTER_OCTETS * DRIVE_OCTETS_MOST]; /* of an `O` or a `P` */
+    uint8_t given[CHARACTER_OCTETS * DRIVE_OCTETS_MOST]; /* of an `O`, a `P` or a `W` */
 };
 
 static void driving_begin(struct driving *driving)
@@ -135,6 +136,34 @@ static enum call_read call_gap(FILE *out, struct driving *driving)
     return CALL_DONE;
 }
 
+/* "`why`, number, word, cause, P/N; `-` for what there is not" */
+static void write_why(FILE *out, const struct why *why)
+{
+    const char *word = why_word(why);
+
+    fprintf(out, "why %d %s ", (int)why->number, word == NULL ? "-" : word);
+    if (why->rule == NULL)
+        fputs("- -\n", out);
+    else
+        fprintf(out, "%d %d\n", (int)why->rule->cause, (int)why->rule->negative);
+}
+
+/* "`W`, 2-octet length, octets: of a message". It is asked of the card as it is,
+   with what is lent now; the card and the buffer stay as they are. */
+static enum call_read call_why(FILE *in, FILE *out, struct driving *driving)
+{
+    struct question question = {driving->image, driving->image_length,
+                                driving->clock, driving->given, 0};
+    struct why why;
+
+    if (!read_number(in, 2, &question.length) ||
+        !read_octets(in, driving->given, question.length))
+        return CALL_CUT;
+    why = why_ask(&driving->card, &question);
+    write_why(out, &why);
+    return CALL_DONE;
+}
+
 static enum call_read next_call(FILE *in, FILE *out, struct driving *driving)
 {
     switch (getc(in)) {
@@ -152,6 +181,8 @@ static enum call_read next_call(FILE *in, FILE *out, struct driving *driving)
         return call_characters(in, driving);
     case 'G':
         return call_gap(out, driving);
+    case 'W':
+        return call_why(in, out, driving);
     case EOF:
         return CALL_NONE;
     default:

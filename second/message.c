@@ -2,18 +2,7 @@
 
 #include "label.h"
 
-enum record_rule { RECORD_0, RECORD_21, RECORD_11, RECORD_OF_EVENTS };
-
-/* One row of document 01's table. N is the whole structure octet, for SQ is 0. */
-struct row {
-    enum message_type type;
-    uint8_t n;
-    uint8_t octets;
-    enum cause cause;
-    enum record_rule record;
-};
-
-static const struct row rows[] = {
+static const struct request_row rows[] = {
     {TYPE_IDENTITY, 0, 6, CAUSE_REQUEST, RECORD_0},
     {TYPE_EVENTS, 0, 16, CAUSE_ACTIVATION, RECORD_OF_EVENTS},
     {TYPE_CLOCK, 0, 6, CAUSE_REQUEST, RECORD_0},
@@ -26,17 +15,7 @@ static const struct row rows[] = {
     {TYPE_CLOSE, 0, 6, CAUSE_ACTIVATION, RECORD_0},
 };
 
-/* What stands behind the header. */
-enum {
-    EVENTS_FIRST_AT = 6, /* 102: first label, last label */
-    OBJECT_FIRST_AT = 6, /* 122, 123: first object, last object, labels */
-    OBJECT_LAST_AT = 7,
-    READINGS_FIRST_AT = 8,
-    TIME_AT = 6,         /* 181: label b; 186: two labels a */
-    PASSWORD_AT = 6      /* 183 */
-};
-
-static const struct row *find_row(uint8_t type)
+const struct request_row *message_row(uint8_t type)
 {
     for (size_t i = 0; i < sizeof rows / sizeof rows[0]; i++)
         if (rows[i].type == type)
@@ -44,7 +23,7 @@ static const struct row *find_row(uint8_t type)
     return NULL;
 }
 
-static bool record_fits(enum record_rule rule, uint8_t record)
+bool record_fits(enum record_rule rule, uint8_t record)
 {
     switch (rule) {
     case RECORD_0:
@@ -67,7 +46,7 @@ struct point_address message_point(const uint8_t *request)
     return point;
 }
 
-static size_t first_label_at(const uint8_t *request)
+size_t first_label_at(const uint8_t *request)
 {
     return request[TYPE_AT] == TYPE_EVENTS ? EVENTS_FIRST_AT : READINGS_FIRST_AT;
 }
@@ -249,7 +228,7 @@ struct verdict message_judge(const uint8_t *request, size_t length,
                              const struct meter_image *image,
                              const uint8_t *clock)
 {
-    const struct row *row = find_row(request[TYPE_AT]);
+    const struct request_row *row = message_row(request[TYPE_AT]);
     const struct metering_point *point = image_point(image, message_point(request));
     bool opening = request[TYPE_AT] == TYPE_OPEN;
 

@@ -47,6 +47,35 @@ enum message_type {
     TYPE_CLOSE = 187
 };
 
+enum record_rule { RECORD_0, RECORD_21, RECORD_11, RECORD_OF_EVENTS };
+
+/* One row of document 01's table. N is the whole structure octet, for SQ is 0. */
+struct request_row {
+    enum message_type type;
+    uint8_t n;
+    uint8_t octets;
+    enum cause cause;
+    enum record_rule record;
+};
+
+/* The row of that type, or NULL. */
+const struct request_row *message_row(uint8_t type);
+
+bool record_fits(enum record_rule rule, uint8_t record);
+
+/* What stands behind the header. */
+enum {
+    EVENTS_FIRST_AT = 6, /* 102: first label, last label */
+    OBJECT_FIRST_AT = 6, /* 122, 123: first object, last object, labels */
+    OBJECT_LAST_AT = 7,
+    READINGS_FIRST_AT = 8,
+    TIME_AT = 6,         /* 181: label b; 186: two labels a */
+    PASSWORD_AT = 6      /* 183 */
+};
+
+/* Of a request of type 102, 122 or 123; the last label stands behind the first. */
+size_t first_label_at(const uint8_t *request);
+
 struct session {
     bool open;
     struct point_address point; /* of an open session */

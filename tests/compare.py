@@ -1,18 +1,19 @@
 #!/usr/bin/env python3
-"""compare.py [FIRST SECOND] [--seed S] [--print N] [--drive N] [--eleven N] [--lookup N] [--book N] [--fixed]
-           [--only TEXT]
+"""compare.py [FIRST SECOND] [--seed S] [--print N] [--drive N] [--eleven N] [--why N] [--lookup N] [--book N]
+           [--fixed] [--only TEXT]
 
 Gives the same inputs to the programs `print`, `drive`, `lookup` and `book` of two folders and compares what they write,
 octet for octet; of `book` also what it writes on standard error, up to the first colon.
 Without folders: the proved programs and the second program, both built.
 
-    --fixed      the fixed set: every systematic input (systematic.py, eleven.py, books.py) and random ones of fixed
-                 seeds
-    --only TEXT  of the fixed set the inputs that have this in their name: `eleven` for all that are meant for a card of
-                 the eleven-bit profile
+    --fixed      the fixed set: every systematic input (systematic.py, eleven.py, why.py, books.py) and random ones of
+                 fixed seeds
+    --only TEXT  of the fixed set the inputs that have this in their name: `eleven` for those of eleven.py and the
+                 conversations with a card of the eleven-bit profile, `why` for all with questions
     --print N    conversations from seed S until N runs have been printed by each program
     --drive N    the same until N gaps have been driven
     --eleven N   the same with cards of the eleven-bit profile
+    --why N      the same with cards of either profile and questions between the gaps, which are not counted
     --lookup N   books and look-ups from seed S until N calls have been answered by each program
     --book N     N texts and books from seed S
     --seed S     the seed of these, 1 if not given
@@ -32,11 +33,12 @@ from eleven import eleven_bit_inputs, eleven_bits_little_by_little
 from generate import KINDS, random_inputs
 from programs import PROVED, SECOND, difference, run_little_by_little, run_program
 from systematic import little_by_little, systematic_inputs
+from why import why_inputs, why_little_by_little
 
 # Random inputs in the fixed set: some before the systematic inputs, for most faults show at once, and the rest behind
 # them. An input has about 270 runs or 190 gaps.
-EARLY_INPUTS = {"print": 12, "drive": 12, "lookup": 24, "book": 110, "eleven": 12}
-LATER_INPUTS = {"print": 780, "drive": 290, "eleven": 40}
+EARLY_INPUTS = {"print": 12, "drive": 12, "lookup": 24, "book": 110, "eleven": 12, "why": 12}
+LATER_INPUTS = {"print": 780, "drive": 290, "eleven": 40, "why": 40}
 
 
 def drawn(seed, counts):
@@ -49,10 +51,11 @@ def fixed_set():
     """(face, name, octets, way to run) of every input of the fixed set, in its order. The repository's own books are
     the last, so that no count of docs/SLIPS.md moves with them."""
     yield from drawn("early", EARLY_INPUTS)
-    for face, name, octets in itertools.chain(eleven_bit_inputs(), systematic_names(), systematic_inputs()):
+    for face, name, octets in itertools.chain(why_inputs(), eleven_bit_inputs(), systematic_names(),
+                                              systematic_inputs()):
         yield face, name, octets, run_program
     for face, name, octets in itertools.chain(names_little_by_little(), little_by_little(),
-                                              eleven_bits_little_by_little()):
+                                              eleven_bits_little_by_little(), why_little_by_little()):
         yield face, name, octets, run_little_by_little
     yield from drawn("fixed", LATER_INPUTS)
     for face, name, octets in repository_books():

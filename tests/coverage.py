@@ -11,6 +11,11 @@ EVENTS_TYPE, EVENT_OCTETS = 1, 9
 REQUEST_TYPES = (100, 102, 103, 122, 123, 181, 183, 185, 186, 187)
 CAUSES = ("7", "7 P/N", "10", "13", "14", "15", "16", "17", "18")
 NUMBERS = tuple(map(str, range(11)))
+# Of questions, as they are printed: the words in the paper's order, and the numbers that have no word.
+WHY_WORDS = ("marked", "type", "session", "point", "other", "shape", "record", "objects", "reading-label",
+             "reading-range", "no-reading", "event-label", "event-range", "no-event", "clock", "no-dates", "time",
+             "password", "accepted")
+WHY_REFUSALS = ("1", "2")
 FAULTS = ("version", "image", "cut", "call")
 DATA, P_N, CAUSE_BITS = 5, 0x40, 0x3F
 # Of books and look-ups, as they are printed.
@@ -51,10 +56,14 @@ class CardCoverage:
         self.labels = Counter()     # of readings and events, by type and SU
         self.changed = 0            # type 1 in which SU changes
         self.mirrors = Counter()    # by request type and cause
+        self.questions = Counter()  # by word, or number of a refusal
         self.most_octets = 0
 
     def note_line(self, face, fields):
-        """True for a run or a gap, false for a fault word."""
+        """True for a run or a gap, false for a question or a fault word."""
+        if fields[0] == "why":
+            self.questions[fields[1] if fields[1] in WHY_REFUSALS else fields[2]] += 1
+            return False
         if len(fields) < 4:
             self.numbers[face, fields[0]] += 1
             return False
@@ -102,6 +111,11 @@ class CardCoverage:
         rows += ["", "| mirror of | " + " | ".join(CAUSES) + " |", "|---" * (len(CAUSES) + 1) + "|"]
         for kind in (*REQUEST_TYPES, "other"):
             rows.append(f"| {kind} | " + " | ".join(str(self.mirrors[kind, cause] or "") for cause in CAUSES) + " |")
+        rows += ["", f"{self.questions.total()} questions", "", "| question | times |", "|---|---|"]
+        for word in WHY_WORDS:
+            rows.append(f"| {word} | {self.questions[word]} |")
+        for number in WHY_REFUSALS:
+            rows.append(f"| refusal {number} | {self.questions[number]} |")
         return "\n".join(rows)
 
 

@@ -1,30 +1,33 @@
 #!/usr/bin/env python3
-"""generate.py SEED COUNT KIND: prints COUNT inputs of the kind (print, drive, eleven, lookup, book) drawn from SEED,
-one a line in hex.
+"""generate.py SEED COUNT KIND: prints COUNT inputs of the kind (print, drive, eleven, why, lookup, book) drawn from
+SEED, one a line in hex.
 
     tests/generate.py 7 3 drive | sed -n 2p | xxd -r -p | proved/drive
 
-A kind is a face, or `eleven`: conversations over the driving face with a card of the eleven-bit profile. The same seed
-gives the same inputs. `random_inputs` is what compare.py uses.
+A kind is a face, or `eleven`: conversations over the driving face with a card of the eleven-bit profile; or `why`:
+conversations over the driving face, with cards of either profile, that ask `W` now and then. The same seed gives the
+same inputs. `random_inputs` is what compare.py uses.
 """
 
 import random
 import sys
 
 from books import random_book, random_lookup
-from lines import DriveLine, ElevenBitLine, PrintLine
+from lines import DriveLine, ElevenBitLine, PrintLine, WonderingElevenBitLine, WonderingLine
 from meter import UNSOUND, random_meter, random_octets
 from programs import FACES
-from talk import Centre, ElevenBitCentre, random_clock
+from talk import Centre, ElevenBitCentre, WonderingCentre, WonderingElevenBitCentre, random_clock
 
 # Kinds of random inputs, each with the face that it is for.
-KINDS = {face: face for face in FACES} | {"eleven": "drive"}
-RUNS_IN_AN_INPUT = {"print": (100, 400), "drive": (60, 250), "eleven": (60, 250)}
+KINDS = {face: face for face in FACES} | {"eleven": "drive", "why": "drive"}
+RUNS_IN_AN_INPUT = {"print": (100, 400), "drive": (60, 250), "eleven": (60, 250), "why": (60, 250)}
 MISCHIEF, UNREST = (0.0, 0.05, 0.3), (0.02, 0.1, 0.3, 0.5)
 
 
 def conversation(chance, kind, length=None):
     """One input that holds a conversation from power-on, of about so many runs or gaps."""
+    if kind == "why":
+        return conversation_with_questions(chance, length)
     meter = random_meter(chance)
     clock = random_clock(chance)
     if kind == "print":
@@ -36,6 +39,17 @@ def conversation(chance, kind, length=None):
                              through_octets=chance.choice((0.0, 0.3, 1.0)))
     centre = (ElevenBitCentre if kind == "eleven" else Centre)(chance, meter, line, unrest=chance.choice(UNREST))
     centre.converse(length or chance.randint(*RUNS_IN_AN_INPUT[kind]))
+    return line.octets()
+
+
+def conversation_with_questions(chance, length=None):
+    """The same over the driving face, with `W` between the other calls."""
+    meter = random_meter(chance)
+    eleven, mischief = chance.random() < 0.3, chance.choice(MISCHIEF)
+    line = (WonderingElevenBitLine if eleven else WonderingLine)(chance, meter.octets, random_clock(chance), mischief)
+    line.wonder = chance.choice((0.0, 0.05, 0.3))
+    centre = (WonderingElevenBitCentre if eleven else WonderingCentre)(chance, meter, line, chance.choice(UNREST))
+    centre.converse(length or chance.randint(*RUNS_IN_AN_INPUT["why"]))
     return line.octets()
 
 

@@ -1,5 +1,5 @@
-"""The card's two faces, and the driving one in the eleven-bit profile, as lines that a conversation is held over: each
-builds the input of one program."""
+"""The card's two faces, and the driving one in the eleven-bit profile and with questions, as lines that a conversation
+is held over: each builds the input of one program."""
 
 from meter import UNSOUND
 from wire import LONGEST_RUN, characters
@@ -62,6 +62,10 @@ class DriveLine:
         self.parts.append(b"G")
         self.gaps += 1
 
+    def question(self, message):
+        """Why would this message be refused? Is no gap."""
+        self.parts += (b"W", len(message).to_bytes(2, "big"), message)
+
     def run(self, octets):
         if self.chance is None or self.chance.random() >= self.mischief:
             self.put(octets)
@@ -117,3 +121,31 @@ class ElevenBitLine(DriveLine):
 
     def put_characters(self, pairs):
         self.parts += (b"P", len(pairs).to_bytes(2, "big"), *map(bytes, pairs))
+
+
+class Wondering:
+    """Of a line of the driving face: asks `W` of the message that is spoken of, now and then in front of octets and of
+    a gap, so also inside a run and behind a gap that keeps it. `wonder` is how often."""
+
+    wonder = 0.0
+    about = b""
+
+    def question_now_and_then(self):
+        if self.chance.random() < self.wonder:
+            self.question(self.about)
+
+    def put(self, run):
+        self.question_now_and_then()
+        super().put(run)
+
+    def gap(self):
+        self.question_now_and_then()
+        super().gap()
+
+
+class WonderingLine(Wondering, DriveLine):
+    pass
+
+
+class WonderingElevenBitLine(Wondering, ElevenBitLine):
+    pass

@@ -6,7 +6,8 @@
 - docs/READING.md: the lines of the files in its tables, and the figures that stand between `<!--NAME-->` and `<!---->`. A file of the table
   of what has to be believed uses no other definitions than those of that table; nor do the contracts of the card.
 - docs/SLIPS.md is written by slips.py; here it is seen that nothing that its rows rest on has changed since.
-- README.md: explain's examples are those that are run.
+- docs/WHY.md: the table of the rules, from the words of explain, the names of why, and the causes of rules.
+- README.md and docs/WHY.md: explain's examples are those that are run.
 
 It is an error if a public call has no row, a row no call, a call with a contract fewer than two wrong answers, an edit a call that
 is not there, or a file of definitions no place in docs/READING.md. Status 1 then, and with --check if a document is not current.
@@ -21,8 +22,8 @@ from slips import TABLE as SLIPS, rests_on
 from sources import functions
 
 CRATES, CONTRACTS, READING = ROOT / "crates", ROOT / "docs" / "CONTRACTS.md", ROOT / "docs" / "READING.md"
-README, STORED = ROOT / "README.md", CRATES / "explain"
-EXAMPLES = ("explain.txt", "active-energy.txt", "autumn-hour.txt", "event-names.txt", "eleven-bits.txt")
+README, WHY, STORED = ROOT / "README.md", ROOT / "docs" / "WHY.md", CRATES / "explain"
+EXAMPLES = ((README, ("explain.txt", "active-energy.txt", "autumn-hour.txt", "event-names.txt", "eleven-bits.txt", "why.txt")), (WHY, ("no-session.txt",)))
 WORKED_OUT = ("fields/specs/working/Key", "image/specs/working/Keys", "choice/specs/working/Keys", "faults/specs/working/Walking",
               "names/specs/working/Pass")
 PROGRAMS = ("input", "stream", "printing", "turns", "driving", "explain")
@@ -199,26 +200,75 @@ def reading(text, every, errors):
     return re.sub(r"<!--(\w+)-->[\d,]*<!---->", figure, text)
 
 
-def see_examples(errors):
-    """README shows explain's examples and what is written for them. Each stands in the program's stored input between two empty lines, and what is
+def source(crate, file):
+    return (CRATES / crate / "src" / file).read_text(encoding="utf8")
+
+
+def spoken(table):
+    """The texts of a table among explain's words, each of which ends with a semicolon."""
+    return re.search(rf'^const {table}: \[u8; \d+\] =\s+\*b"(.*)";$', source("explain", "words.rt"), re.M).group(1).split(";")[:-1]
+
+
+def rule_words():
+    """The words of the rules: a table in which each takes as much room, and of each so many letters count."""
+    text = source("why", "lib.rt")
+    width = int(re.search(r"^const WIDTH: usize = (\d+);$", text, re.M).group(1))
+    words = re.search(r'^const WORDS: \[u8; \d+\] =\s+\*b"(.*)";$', text, re.M).group(1)
+    letters = re.search(r"^const LETTERS: \[u8; \d+\] = \[(.*)\];$", text, re.M).group(1).split(", ")
+    return [words[at * width:][:int(many)] for at, many in enumerate(letters)]
+
+
+def by_rule(crate, function):
+    """What a function answers to each rule; `_` stands for all others."""
+    body = source(crate, "lib.rt").partition(f"pub fn {function}(")[2].partition("fn ")[0]
+    return dict(re.findall(r"(?:Rule::)?(\w+) => (\w+),", body))
+
+
+def refusal(rule):
+    """The cause and the P/N of the mirror that a rule gives; an accepted message is not refused."""
+    if rule == "Accepted":
+        return "-", "-"
+    pn = by_rule("rules", "pn")
+    return by_rule("rules", "cause")[rule], "1" if pn.get(rule, pn["_"]) == "true" else "0"
+
+
+def why(text, _, errors):
+    """docs/WHY.md with its table of the rules written anew."""
+    places, names, words, looks = by_rule("why", "place"), spoken("RULES"), rule_words(), spoken("LOOK_AT")
+    if not len(places) == len(names) == len(words) == len(looks):
+        errors.append(f"docs/WHY.md: {len(places)} rules, {len(names)} names, {len(words)} words, {len(looks)} texts on what to look at")
+        return text
+    rows = ["| No. | Rule | Word | Cause | P/N | What to look at |", "|---|---|---|---|---|---|"]
+    for rule, place in sorted(places.items(), key=lambda pair: int(pair[1])):
+        at, (cause, pn) = int(place) - 1, refusal(rule)
+        rows.append(f"| {place} | {names[at]} | `{words[at]}` | {cause} | {pn} | {looks[at] or '-'} |")
+    written, tables = re.subn(r"<!--rules-->.*?<!---->", lambda _: "\n".join(["<!--rules-->", *rows, "<!---->"]), text, flags=re.S)
+    if tables != 1:
+        errors.append(f"docs/WHY.md: {tables} tables of rules")
+    return written
+
+
+def see_examples(page, names, errors):
+    """A page shows examples of explain and what is written for them. Each stands in the program's stored input between two empty lines, and what is
     written for it in the stored output, behind as many empty lines."""
-    readme = README.read_text(encoding="utf8")
+    shown = page.read_text(encoding="utf8")
     given, written = ((STORED / name).read_text(encoding="utf8").split("\n\n") for name in ("stdin", "stdout"))
-    for name in EXAMPLES:
+    for name in names:
         example = (ROOT / "examples" / name).read_text(encoding="utf8")
         if example.removesuffix("\n") not in given:
             errors.append(f"crates/explain/stdin does not have examples/{name} between two empty lines")
             continue
         for text in (example, written[given.index(example.removesuffix("\n"))]):
-            if "".join(f"    {line}\n" for line in text.splitlines()) not in readme:
-                errors.append(f"README.md does not show examples/{name} with what is written for it")
+            if "".join(f"    {line}\n" for line in text.splitlines()) not in shown:
+                errors.append(f"{page.name} does not show examples/{name} with what is written for it")
 
 
 def main(words):
     errors = []
     every = read_calls(errors)
-    see_examples(errors)
-    for path, written in ((CONTRACTS, contracts), (READING, reading)):
+    for page, names in EXAMPLES:
+        see_examples(page, names, errors)
+    for path, written in ((CONTRACTS, contracts), (READING, reading), (WHY, why)):
         old = path.read_text(encoding="utf8")
         new = written(old, every, errors)
         if words == ["--check"]:

@@ -13,7 +13,8 @@ PROVED, SECOND = ROOT / "proved", ROOT / "second" / "build"
 SECONDS_FOR_ONE_INPUT = 120
 LONGEST_SHOWN = 2000  # octets of a line; a book may be one line of megabytes
 NOT_ENDED = f"not ended after {SECONDS_FOR_ONE_INPUT} seconds"
-# Each program, and what is counted of it: lines, but of `book`, whose output is not made of lines, the inputs.
+# Each program, and what is counted of it: lines, but of `book`, whose output is not made of lines, the inputs. An
+# answer to `W` is a line of `drive`, too.
 COUNTED = {"print": "runs", "drive": "gaps", "lookup": "calls", "book": "conversions"}
 FACES = tuple(COUNTED)
 # Whose standard error is compared, too.
@@ -112,7 +113,7 @@ class Difference:
         return counted(self.face, self.at + 1)
 
     def text(self):
-        unit = "line" if self.face == "book" else COUNTED[self.face].removesuffix("s")
+        unit = "line" if self.face in ("book", "drive") else COUNTED[self.face].removesuffix("s")
         return f"{unit} {self.at + 1} differs\nfirst:  {self.first_line}\nsecond: {self.second_line}"
 
 

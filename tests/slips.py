@@ -22,7 +22,7 @@ from programs import COUNTED, FACES, ROOT, difference
 SOURCE = ROOT / "second"
 ENTRIES = ROOT / "tests" / "slips" / "entries.txt"
 TABLE = ROOT / "docs" / "SLIPS.md"
-INPUTS = ("books", "compare", "eleven", "generate", "lines", "meter", "systematic", "talk", "wire")
+INPUTS = ("books", "compare", "eleven", "generate", "lines", "meter", "systematic", "talk", "why", "wire")
 
 
 def rests_on():
@@ -171,9 +171,10 @@ def write_table(slips, findings):
         "How much the comparison notices. Written by `tests/slips.py`: each slip is put into the second program alone, and",
         "the fixed set is given to both until an output differs. Runs (of `print`), gaps (of `drive`), calls (of `lookup`) and",
         "conversions (of `book`) are those compared until then, in the order of the fixed set: first a dozen conversations",
-        "with the card over each of its faces, random inputs of `lookup` and `book`, and a dozen conversations with cards of",
-        "the eleven-bit profile, then the systematic inputs, then the other conversations. A line `version`, `image`, `cut` or",
-        "`call` counts as one, too. A program that a slip leaves as it was, octet for octet, is not run again.", "",
+        "with the card over each of its faces, random inputs of `lookup` and `book`, a dozen conversations with cards of the",
+        "eleven-bit profile and a dozen with questions, then the systematic inputs, then the other conversations. A line",
+        "`version`, `image`, `cut`, `call` or `why` counts as one, too. A program that a slip leaves as it was, octet for",
+        "octet, is not run again.", "",
         "`./test` sees that nothing that the rows rest on has changed since they were written; the sum below is over it.", "",
         f"{len(rows)} slips, {len(rows) - missed} noticed.", "",
         rests_on() if whole else known_sum(), "",

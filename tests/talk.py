@@ -460,3 +460,46 @@ class ElevenBitCentre(Centre):
                 self.line.put(self.last_frame[:self.chance.randint(0, len(self.last_frame))])
             self.power_on()
         super().scene()
+
+
+class Wonder:
+    """Of a centre: asks `W` of the message that is about to be sent, and of others, and again when it has been sent."""
+
+    def counted(self, control, user=b""):
+        if control == USER_DATA:
+            self.line.about = user
+            for _ in range(self.chance.choice((0, 1, 1, 2))):
+                self.line.question(user)
+        if self.often(0.2):
+            self.line.question(self.another_message())
+        super().counted(control, user)
+        if self.often(0.2):
+            self.line.question(self.line.about)
+
+    def another_message(self):
+        """A request, right or spoiled, or random octets, of a length that a frame can carry or not."""
+        chance = self.chance
+        request = self.random_request()
+        way = chance.random()
+        if way < 0.3:
+            return request.octets()
+        if way < 0.7:
+            self.spoil(request)
+            return request.octets()
+        if way < 0.8:
+            octets = request.octets()
+            return octets.ljust(chance.choice((0, 5, 6, 7, 252, 253, 255, 256, 262, 300, 512, 518)), b"\x00")
+        return random_octets(chance, chance.choice((0, 5, 6, 10, 16, 18, 252, 253, chance.randint(0, 300))))
+
+    def exchange(self):
+        super().exchange()
+        if self.often(0.5):
+            self.line.question(self.line.about)
+
+
+class WonderingCentre(Wonder, Centre):
+    """A conversation with questions."""
+
+
+class WonderingElevenBitCentre(Wonder, ElevenBitCentre):
+    """The same with a card of the eleven-bit profile."""

@@ -1,9 +1,9 @@
-"""Helpers for check.py and names.py: build octets, run the programs, compare every
-line.
+"""Helpers for check.py, why.py and names.py: build octets, run the programs, compare
+every line.
 
 Nothing here knows a rule of the card except the shape of frames and messages,
 nor one of books except the shape of an entry; what should be answered is written
-out by hand in check.py and names.py.
+out by hand in check.py, why.py and names.py.
 """
 
 import os
@@ -286,6 +286,12 @@ class Drive:
     def marked(self, octets, *wrong, number=10, what=""):
         """A run whose characters at these places have the wrong parity bit."""
         return self.characters(characters(octets, wrong)).gap(number, what=what)
+
+    def why(self, user, number, word="-", cause="-", negative="-", what=""):
+        """Asks `W` of a message."""
+        self.calls += b"W" + be(len(user), 2) + user
+        self.lines.append((what, f"why {number} {word} {cause} {negative}"))
+        return self
 
     def gap(self, number, reply=b"", order="-", order_octets=b"", what=""):
         self.calls += b"G"

@@ -12,7 +12,7 @@ use Rattle.octets.proofs.Choice.{either}
 use Rattle.profile.specs.declared.Profile.{Profile}
 use Rattle.input.specs.declared.Call.{Call}
 use Rattle.input.specs.declared.Call.the-variants as call
-use Rattle.input.specs.Input.{lengthOf2, lengthOf3, takesCharacters, areBits, callSize, wholeCall, callFound}
+use Rattle.input.specs.Input.{lengthOf2, lengthOf3, takesOctets, takesCharacters, areBits, callSize, wholeCall, callFound}
 
 -- a call has one octet or more
 pub call-one : (p : Profile) (read : List ℕ) → 1 ≤ callSize p read
@@ -24,7 +24,7 @@ call-one p read =
     (λ _. either P (ltb 65600 (lengthOf3 read 1)) (λ _. omega arith) (λ _. omega arith)))
     (λ _. either P (eqb (getD read 0 0) 67) (λ _. omega arith)
     (λ _. either P (eqb (getD read 0 0) 66) (λ _. omega arith)
-    (λ _. either P (eqb (getD read 0 0) 79)
+    (λ _. either P (takesOctets (getD read 0 0))
     (λ _. either P (ltb (length read) 3) (λ _. omega arith) (λ _. omega arith))
     (λ _. either P (takesCharacters p (getD read 0 0))
     (λ _. either P (ltb (length read) 3) (λ _. omega arith) (λ _. omega arith))
@@ -42,6 +42,7 @@ Begins read call.Octets = Unit {0}
 Begins read call.ElevenBits = Unit {0}
 Begins read call.Characters = Unit {0}
 Begins read call.Gap = Unit {0}
+Begins read call.Why = Unit {0}
 
 begins : (p : Profile) (read : List ℕ) → Begins read (callFound p read)
 unfolding callFound wholeCall
@@ -56,7 +57,8 @@ begins p read =
     (λ _. either P (eqb n 79) (λ _. tt)
     (λ _. either P (eqb n 69) (λ _. tt)
     (λ _. either P (takesCharacters p n) (λ _. either P (areBits (drop 3 read)) (λ _. tt) (λ _. tt))
-    (λ _. either P (eqb n 71) (λ _. tt) (λ _. tt)))))))))
+    (λ _. either P (eqb n 71) (λ _. tt)
+    (λ _. either P (eqb n 87) (λ _. tt) (λ _. tt))))))))))
 
 -- an I that stands first in what is left of an input has at most 65,604
 pub image-most : (p : Profile) (rest : List ℕ) → callFound p (take (callSize p rest) rest) ≡ call.Image → callSize p rest ≤ 65604

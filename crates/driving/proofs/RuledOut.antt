@@ -4,6 +4,7 @@ use Prim.Native.Nat.{ℕ, _+_, _≤_}
 use mathlib.Core.Bool.{true, false≢true}
 use mathlib.Core.List.{List, [], _∷_}
 use mathlib.Core.Path.{_≡_, sym, ap, _∙_}
+use native.Mathlib.Omega.{arith}
 use contract.Lifetimes.{Lfts}
 use denote.Ref.{now}
 use borrow.Author.Tests.{le-leb}
@@ -21,7 +22,10 @@ use Rattle.card.specs.Gap.{Outcome, gapped}
 use Rattle.input.specs.Input.{lengthOf2, lengthOf3, clockAt, areBits, charactersIn, callSize, wholeCall, callFound}
 use Rattle.driving.specs.declared.Held.{Held}
 use Rattle.driving.specs.declared.Left.{Left}
-use Rattle.driving.specs.Driven.{atStart, withClock, withRoom, withCard, withProfile, withBuffer, lineStep, gapStep, afterCall, callStep}
+use Rattle.why.specs.Asking.{whyOf}
+use Rattle.why.specs.Told.{whyLine}
+use Rattle.why.proofs.Told.{line-short}
+use Rattle.driving.specs.Driven.{whyText, whyStep, atStart, withClock, withRoom, withCard, withProfile, withBuffer, lineStep, gapStep, afterCall, callStep}
 use Rattle.driving.specs.Stepped.{benchOf, heldOf, leftBy}
 use Rattle.driving.proofs.start.Reads as start
 use Rattle.driving.proofs.step.Reads as step
@@ -75,6 +79,28 @@ module _ (κs : Lfts 4) (x y z w : Place) (out image buffer : List ℕ) (held : 
       → RuledOut (step.Post κs) (lent x out, (held, (lent y image, (lent z buffer, (lent w (79 ∷ 0 ∷ 2 ∷ a ∷ b ∷ []), tt))))) wrong
   unfolding callStep callFound callSize wholeCall lengthOf2 highFirst lowFirst afterCall benchOf leftBy heldOf withCard
   step-octets-order a b other s p = other (ap (λ (l : Left). l .held .card) (p .0 .answers) ∙ sent-all (held .profile) (a ∷ b ∷ []) (held .card))
+
+  -- anything changed that is held behind a W: the card, the clock, the room
+  step-why-held : (a b : ℕ) → (wrong .held ≡ held → ⊥)
+      → RuledOut (step.Post κs) (lent x out, (held, (lent y image, (lent z buffer, (lent w (87 ∷ 0 ∷ 2 ∷ a ∷ b ∷ []), tt))))) wrong
+  unfolding callStep callFound callSize wholeCall lengthOf2 highFirst lowFirst afterCall whyStep benchOf leftBy heldOf
+  step-why-held a b other s p = other (ap (λ (l : Left). l .held) (p .0 .answers))
+
+  -- the buffer changed by it
+  step-why-buffer : (a b : ℕ) (left : List ℕ) → (left ≡ buffer → ⊥)
+      → RuledOutWith (λ s. now (s .1 .1 .1 .0)) (step.Post κs)
+      (lent x out, (held, (lent y image, (lent z buffer, (lent w (87 ∷ 0 ∷ 2 ∷ a ∷ b ∷ []), tt))))) wrong left
+  unfolding callStep callFound callSize wholeCall lengthOf2 highFirst lowFirst afterCall whyStep benchOf leftBy
+  step-why-buffer a b left other s e p = other (sym e ∙ p .1)
+
+  -- no line for a W, or one of another length than the answer has
+  step-why-line : (a b : ℕ) → 25 ≤ length out → (wrong .count ≡ length (whyText (benchOf held image buffer) (a ∷ b ∷ [])) → ⊥)
+      → RuledOut (step.Post κs) (lent x out, (held, (lent y image, (lent z buffer, (lent w (87 ∷ 0 ∷ 2 ∷ a ∷ b ∷ []), tt))))) wrong
+  unfolding callStep callFound callSize wholeCall lengthOf2 highFirst lowFirst afterCall whyStep whyText benchOf leftBy fitsAt
+  step-why-line a b room other s p =
+      let text = whyLine (whyOf (held .card .link .session) image (held .clock) (a ∷ b ∷ [])) in
+      let fits : 0 + length text ≤ length out = omega (arith, room, line-short (whyOf (held .card .link .session) image (held .clock) (a ∷ b ∷ []))) in
+      other (ap (λ (l : Left). l .count) (rw (le-leb (0 + length text) (length out) fits) at (p .0 .answers)))
 
   -- a card of the ten-bit profile behind an E, or of no profile that it says
   step-eleven-profile : (wrong .held .profile ≡ Eleven → ⊥)

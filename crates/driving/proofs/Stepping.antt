@@ -30,7 +30,7 @@ use Rattle.input.proofs.Pairs.{characters-next, characters-end}
 use Rattle.printing.specs.Line.{gapLine, Lined}
 use Rattle.driving.specs.declared.Held.{Held}
 use Rattle.driving.specs.declared.Left.{Left}
-use Rattle.driving.specs.Driven.{Bench, Step, silentStep, lastStep, lineStep, withCard, withBuffer, afterCall, callStep}
+use Rattle.driving.specs.Driven.{Bench, Step, silentStep, lineStep, withCard, withBuffer, afterCall, callStep}
 use Rattle.driving.specs.Stepped.{benchOf, heldOf, leftBy, Writes, Stepped, silentLeft, goneLine, isImage, ImageAfter}
 
 -- one octet more comes in
@@ -73,7 +73,7 @@ module _ (space image : List ℕ) (had : ℕ) {left : List ℕ} {done : Bool} (p
 
 -- a call that is no I leaves the image
 abbrev others : List ℕ
-others = 0 ∷ 1 ∷ 2 ∷ 4 ∷ 5 ∷ 6 ∷ 7 ∷ 8 ∷ 9 ∷ []
+others = 0 ∷ 1 ∷ 2 ∷ 4 ∷ 5 ∷ 6 ∷ 7 ∷ 8 ∷ 9 ∷ 10 ∷ []
 
 no-image : (x : Call) → OneOf others (tagOf the-type x) → isImage x ≡ false
 no-image call.End o = refl
@@ -86,6 +86,7 @@ no-image call.Octets o = refl
 no-image call.ElevenBits o = refl
 no-image call.Characters o = refl
 no-image call.Gap o = refl
+no-image call.Why o = refl
 
 pub image-stays : (x : Call) (space : List ℕ) (had : ℕ) (image : List ℕ) → OneOf others (tagOf the-type x) → ImageAfter x space had image had space
 image-stays x space had image o = rw (no-image x o) (record { answers = refl; left-so = refl })
@@ -123,18 +124,18 @@ gap-stepped o buffer under held image g l =
     let line : Lined under (gapLine (o .number) (length (o .reply)) (o .order) (o .time) (o .card .damaged) text) _ _ = rw (g .answers, g .left-so) at l in
     (record { answers = rw (line .answers, g .answers); left-so = line .left-so }, g .left-so)
 
--- a last line
-pub last-writes : (under text : List ℕ) (held : Held) {left : List ℕ} {count : ℕ} → Lined under text count left
-    → Writes under text held false (record { count = count; held = held; more = false }) left
+-- a line, and all as it was
+pub kept-writes : (under text : List ℕ) (held : Held) (more : Bool) {left : List ℕ} {count : ℕ} → Lined under text count left
+    → Writes under text held more (record { count = count; held = held; more = more }) left
 unfolding leftBy
-last-writes under text held l = record { answers = rw (l .answers); left-so = l .left-so }
+kept-writes under text held more l = record { answers = rw (l .answers); left-so = l .left-so }
 
--- a step with a last line, and one without a text
+-- a step with such a line, and one without a text
 module _ (under : List ℕ) {r : Left} where
-  pub last-stepped : (text : List ℕ) (held : Held) (image buffer : List ℕ) {left : List ℕ} → Writes under text held false r left
-      → Stepped under (lastStep text (benchOf held image buffer)) r buffer left
+  pub kept-stepped : (text : List ℕ) (held : Held) (more : Bool) (image buffer : List ℕ) {left : List ℕ} → Writes under text held more r left
+      → Stepped under (record { text = text; bench = benchOf held image buffer; more = more }) r buffer left
   unfolding benchOf heldOf
-  last-stepped text held image buffer p = (p, refl)
+  kept-stepped text held more image buffer p = (p, refl)
 
   pub silent-stepped : (b : Bench) → r ≡ silentLeft (b .profile) (b .card) (b .clock) (b .room) → Stepped under (silentStep b) r (b .buffer) under
   unfolding silentLeft heldOf fitsAt

@@ -24,7 +24,9 @@ use Rattle.printing.proofs.Lines.{word-length, time-length}
 use Rattle.driving.specs.declared.Held.{Held}
 use Rattle.driving.specs.declared.Left.{Left}
 use Rattle.driving.specs.Driven.{Bench, withImage, withClock, withRoom, withCard, withProfile, withBuffer, imageOf}
-use Rattle.driving.specs.Driven.{lineStep, gapStep, afterCall, callStep, firstCall, behindCall, stepsText}
+use Rattle.driving.specs.Driven.{lineStep, gapStep, whyText, whyStep, behindLength, afterCall, callStep, firstCall, behindCall, stepsText}
+use Rattle.why.specs.Asking.{whyOf}
+use Rattle.why.proofs.Told.{line-short}
 use Rattle.driving.specs.Stepped.{benchOf, heldOf, leftBy, Stepped, ImageAfter}
 use Rattle.driving.proofs.Calls.{call-one, image-most}
 
@@ -65,7 +67,7 @@ steps-next b rest =
 module _ (b : Bench) (octets space : List ℕ) (had count : ℕ) (left : List ℕ) (e : b .image ≡ take had space) where
   image-next : (x : Call) → (x ≡ call.Image → length (imageOf octets) ≤ length space) → ImageAfter x space had (imageOf octets) count left
       → take count left ≡ afterCall x b octets .bench .image
-  unfolding afterCall withImage withClock withRoom withCard withProfile withBuffer gapStep lineStep fitsAt
+  unfolding afterCall withImage withClock withRoom withCard withProfile withBuffer gapStep lineStep whyStep fitsAt
   image-next call.Image fits p =
       let image = imageOf octets in
       let after = rw (le-leb (0 + length image) (length space) (omega (arith, fits refl))) at p in
@@ -79,6 +81,7 @@ module _ (b : Bench) (octets space : List ℕ) (had count : ℕ) (left : List �
   image-next call.ElevenBits fits p = rw (p .answers, p .left-so) (sym e)
   image-next call.Characters fits p = rw (p .answers, p .left-so) (sym e)
   image-next call.Gap fits p = rw (p .answers, p .left-so) (sym e)
+  image-next call.Why fits p = rw (p .answers, p .left-so) (sym e)
 
 -- the bench that the next call meets, of an image that fits its space
 pub bench-next : (under : List ℕ) {buffer′ left : List ℕ} {r : Left} (held : Held) (space buffer octets : List ℕ) (had count : ℕ) (space′ : List ℕ)
@@ -105,7 +108,7 @@ line-length number count order time damaged buffer =
 
 -- so the program's 1,024 octets have room for every text
 text-call : (x : Call) (b : Bench) (octets : List ℕ) → length (afterCall x b octets .bench .buffer) ≤ 300 → length (afterCall x b octets .text) ≤ 1024
-unfolding afterCall gapStep lineStep withCard withProfile withBuffer
+unfolding afterCall gapStep lineStep whyStep whyText withCard withProfile withBuffer
 text-call call.End b octets h = omega arith
 text-call call.Cut b octets h = omega arith
 text-call call.Wrong b octets h = omega arith
@@ -118,6 +121,8 @@ text-call call.Characters b octets h = omega arith
 text-call call.Gap b octets h =
     let o = gapped (b .card) (b .image) (b .clock) (length (take (b .room) (b .buffer))) in
     omega (arith, line-length (o .number) (length (o .reply)) (o .order) (o .time) (o .card .damaged) (laidIn (b .buffer) (o .reply)))
+text-call call.Why b octets h =
+    omega (arith, line-short (whyOf (b .card .link .session) (b .image) (b .clock) (behindLength octets)))
 
 pub text-fits : (b : Bench) (octets : List ℕ) → length (callStep b octets .bench .buffer) ≤ 300 → length (callStep b octets .text) ≤ 1024
 unfolding callStep

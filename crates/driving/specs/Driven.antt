@@ -16,6 +16,8 @@ use Rattle.input.specs.declared.Call.{Call}
 use Rattle.input.specs.declared.Call.the-variants as call
 use Rattle.input.specs.Input.{lengthOf2, clockAt, charactersIn, callSize, callFound}
 use Rattle.printing.specs.Line.{cutLine, newline, gapLine}
+use Rattle.why.specs.Asking.{whyOf}
+use Rattle.why.specs.Told.{whyLine}
 
 -- the fixed words, each on a line of its own: call; and cut (`printing`)
 abbrev pub callLine : List ℕ
@@ -82,11 +84,18 @@ lineStep o b =
 unfoldable pub gapStep : Bench → Step
 gapStep b = lineStep (gapped (b .card) (b .image) (b .clock) (length (take (b .room) (b .buffer)))) b
 
+-- the line that tells why the card as it is would refuse a message, with the image and the clock lent now; nothing is changed
+unfoldable pub whyText : Bench → List ℕ → List ℕ
+whyText b message = whyLine (whyOf (b .card .link .session) (b .image) (b .clock) message)
+
+unfoldable pub whyStep : Bench → List ℕ → Step
+whyStep b message = record { text = whyText b message; bench = b; more = true }
+
 -- the image of an I stands behind its letter and a length of 3 octets
 abbrev pub imageOf : List ℕ → List ℕ
 imageOf octets = drop 4 octets
 
--- the octets of an O stand behind its letter and a length of 2 octets, and so do the pairs of a P
+-- the octets of an O stand behind its letter and a length of 2 octets, and so do the pairs of a P and the message of a W
 abbrev pub behindLength : List ℕ → List ℕ
 behindLength octets = drop 3 octets
 
@@ -103,6 +112,7 @@ afterCall call.Octets b octets = silentStep (withCard (withCharacters (b .profil
 afterCall call.ElevenBits b octets = silentStep (withCard cardAtPowerOn (withProfile Eleven b))
 afterCall call.Characters b octets = silentStep (withCard (withCharacters Eleven (b .card) (charactersIn (behindLength octets))) b)
 afterCall call.Gap b octets = gapStep b
+afterCall call.Why b octets = whyStep b (behindLength octets)
 
 unfoldable pub callStep : Bench → List ℕ → Step
 callStep b octets = afterCall (callFound (b .profile) octets) b octets

@@ -58,6 +58,7 @@ isImage call.Octets = false
 isImage call.ElevenBits = false
 isImage call.Characters = false
 isImage call.Gap = false
+isImage call.Why = false
 
 -- `ImageAfter call space had image r left`: the image of an I that fits stands in the first octets of its space, and all its octets count; else
 -- those that counted before do, and the space is as it was

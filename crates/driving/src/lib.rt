@@ -1,19 +1,22 @@
 // The calls of the driving program: what each does to the bench, so that the program only reads, steps and writes.
-ghost use mathlib.Core.Bool.{false};
+ghost use mathlib.Core.Bool.{true, false};
+ghost use mathlib.Core.List.{[]};
 ghost use mathlib.Core.Path.{_≡_};
 ghost use lib.ListN.{length, take};
+ghost use Rattle.octets.specs.Keeping.{octetsOf};
 ghost use Rattle.profile.specs.declared.Profile.the-variants.{Eleven};
 ghost use Rattle.card.specs.State.{withCharacters, withOctets};
 ghost use Rattle.card.specs.Gap.{gapped, Gapped};
 ghost use Rattle.input.specs.declared.Call.the-variants as call;
 ghost use Rattle.input.specs.Input.{charactersIn, callFound};
 ghost use Rattle.printing.specs.Line.{Lined};
-ghost use Rattle.driving.specs.Driven.{atStart, imageOf, gapStep, callStep};
+ghost use Rattle.driving.specs.Driven.{atStart, imageOf, gapStep, whyText, callStep};
 ghost use Rattle.driving.specs.Stepped.{benchOf, heldOf, goneLine, silentLeft, Writes, Stepped, ImageAfter};
 use card::Card;
 use card::Gone;
 use frame::Judged;
 use input::Call;
+use octets::Kept;
 use profile::Character;
 use profile::Profile;
 
@@ -137,6 +140,27 @@ fn gap(out: &mut [u8], held: Held, image: &[u8], buffer: &mut [u8]) -> Left
     }
 }
 
+// Writes a text that is kept.
+fn put_kept(out: &mut [u8], text: Kept) -> usize
+    ensures { λ r. ⌜ Lined (now (out .entry)) (octetsOf text) r (now (out .exit)) ⌝ }
+{
+    let octets = text.octets;
+    printing::put_text(out, octets::part(&octets, 0, text.length as usize))
+}
+
+// Why the card as it is would refuse a message. Nothing is changed.
+fn asked(out: &mut [u8], held: Held, image: &[u8], message: &[u8]) -> Left
+    ensures { λ r. ⌜ Writes (now (out .entry)) (whyText (benchOf held (now (image .entry)) []) (now (message .entry))) held true r (now (out .exit)) ⌝ }
+{
+    let card = held.card;
+    let clock = held.clock;
+    Left {
+        count: put_kept(out, why::line(why::ask(card, image, clock, message))),
+        held,
+        more: true,
+    }
+}
+
 // A call as it was read, or what is read of it when no more octets come: its text, and what is held after it. A text that does not fit is not
 // written. The image is the one that is lent; that of an I is put into its place by `image_after`.
 pub fn step(out: &mut [u8], held: Held, image: &[u8], buffer: &mut [u8], call: &[u8]) -> Left
@@ -169,6 +193,7 @@ pub fn step(out: &mut [u8], held: Held, image: &[u8], buffer: &mut [u8], call: &
             room,
         ),
         Call::Gap => gap(out, held, image, buffer),
+        Call::Why => asked(out, held, image, octets::part(call, 3, call.len())),
     }
 }
 

@@ -11,6 +11,7 @@ use crate::messages;
 use crate::requests::Argument;
 use crate::requests::Request;
 use crate::requests::Word;
+use crate::whys;
 use crate::words;
 use address::PointAddress;
 use card::Card;
@@ -243,11 +244,13 @@ fn collect(card: Card, lent: Lent, image: &[u8], shelf: &[u8]) -> Card {
 
 // A gap is a run to which no octets are added.
 fn give(card: Card, lent: Lent, word: Word, given: &[u8], image: &[u8], shelf: &[u8]) -> Card {
+    let clock = lent.clock;
     match word {
         Word::Octets => collecting(card, given),
         Word::Characters => collecting_characters(card, given),
         Word::Ask => ask(card, lent, given, image, shelf),
         Word::Collect => collect(card, lent, image, shelf),
+        Word::Why => whys::explain(card, image, clock, given),
         _ => run(card, lent, given, Met::Unknown, image, shelf),
     }
 }

@@ -2,6 +2,7 @@
 ghost use Prim.Native.Nat.{_<_};
 use crate::frames;
 use crate::voice;
+use crate::whys;
 use crate::words;
 use address::LinkAddress;
 use card::Card;
@@ -64,33 +65,6 @@ pub(crate) fn user_data(space: &mut [u8], last: u8, image: &[u8], message: &[u8]
     message.len() + 9
 }
 
-// The place of a rule among the words.
-fn rule_place(rule: Rule) -> u8
-    ensures { λ r. ⌜ r < 19 ⌝ }
-{
-    match rule {
-        Rule::Marked => 0,
-        Rule::UnknownType => 1,
-        Rule::NoSession => 2,
-        Rule::UnknownPoint => 3,
-        Rule::OtherSession => 4,
-        Rule::Shape => 5,
-        Rule::Address => 6,
-        Rule::Objects => 7,
-        Rule::ReadingLabel => 8,
-        Rule::ReadingRange => 9,
-        Rule::NoReading => 10,
-        Rule::EventLabel => 11,
-        Rule::EventRange => 12,
-        Rule::NoEvent => 13,
-        Rule::ClockUnset => 14,
-        Rule::NoDates => 15,
-        Rule::TimeLabel => 16,
-        Rule::WrongPassword => 17,
-        Rule::Accepted => 18,
-    }
-}
-
 // The rule that a message met, or that no message is known.
 pub enum Met {
     By(Rule),
@@ -101,7 +75,7 @@ fn rule(met: Met) {
     match met {
         Met::By(rule) => {
             voice::line(2);
-            words::rule(rule_place(rule));
+            words::rule(whys::place(rule));
         }
         Met::Unknown => {}
     }

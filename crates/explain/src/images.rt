@@ -4,6 +4,7 @@ use crate::labels;
 use crate::messages;
 use crate::voice;
 use crate::words;
+use faults::ImageFault;
 use faults::ImageRule;
 use fields::DatesFound;
 use fields::IdentityFound;
@@ -199,21 +200,26 @@ fn records(image: &[u8]) {
     }
 }
 
-// The record at fault is named, where it is not the image as a whole.
-pub(crate) fn explain(image: &[u8]) {
-    let fault = faults::of_image(image);
+// What is wrong with an image, if anything is: the record at fault is named, where it is not the image as a whole.
+pub(crate) fn fault(fault: ImageFault) {
     let rule = fault.rule;
     let why = place(rule);
-    let many = image.len() as u64;
-    if why == 19 {
-        words::image(many, 1);
-        return records(image);
-    }
-    words::image(many, 0);
     if 0 < fault.number {
         words::record(fault.number as u64, fault.place as u64);
     }
     if why < 19 {
         words::unsound(why);
     }
+}
+
+pub(crate) fn explain(image: &[u8]) {
+    let found = faults::of_image(image);
+    let rule = found.rule;
+    let many = image.len() as u64;
+    if place(rule) == 19 {
+        words::image(many, 1);
+        return records(image);
+    }
+    words::image(many, 0);
+    fault(found)
 }

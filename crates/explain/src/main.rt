@@ -1,5 +1,5 @@
-// Explains what the card makes of octets, line by line: labels, frames, messages, images, books of event names, and a card that is given runs. Text in,
-// text out.
+// Explains what the card makes of octets, line by line: labels, frames, messages, images, books of event names, a card that is given runs, and why it
+// refuses a message. Text in, text out.
 ghost use Prim.Native.Nat.{_<_};
 
 mod bench;
@@ -12,6 +12,7 @@ mod lines;
 mod messages;
 mod requests;
 mod voice;
+mod whys;
 mod words;
 
 use bench::Bench;
@@ -91,7 +92,7 @@ fn request_after(
 // All words that begin a request.
 fn all_words() {
     let mut n = 0;
-    while n < 20 {
+    while n < 21 {
         words::request(n);
         n += 1;
     }

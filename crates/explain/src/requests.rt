@@ -26,6 +26,7 @@ pub enum Word {
     Event,
     Profile,
     Characters,
+    Why,
     Unknown,
 }
 
@@ -105,13 +106,14 @@ fn word_at(n: u8) -> Word {
         17 => Word::Event,
         18 => Word::Profile,
         19 => Word::Characters,
+        20 => Word::Why,
         _ => Word::Unknown,
     }
 }
 
 fn word_of(text: &[u8]) -> Word {
     let mut n = 0;
-    while n < 20 {
+    while n < 21 {
         if words::is_request(text, n) {
             return word_at(n);
         }

@@ -50,12 +50,14 @@ pub(crate) fn pairs(some: &[u8]) {
     }
 }
 
-// What an octet of a phrase stands for: `%` for a number, `&` and `$` for one with two and three figures at least, `~` for an octet in hex, `*` for a
-// word; all else for itself.
+// What an octet of a phrase stands for: `%` for a number, `&` and `$` for one with two and three figures at least, `_` for one that is passed over, `~`
+// for an octet in hex, `*` for a word, `^` for a semicolon, which would end a word of a table; all else for itself.
 enum Mark {
     Figures(usize),
+    Unsaid,
     Hex,
     Word,
+    Semicolon,
     Itself,
 }
 
@@ -64,8 +66,10 @@ fn mark_of(c: u8) -> Mark {
         b'%' => Mark::Figures(1),
         b'&' => Mark::Figures(2),
         b'$' => Mark::Figures(3),
+        b'_' => Mark::Unsaid,
         b'~' => Mark::Hex,
         b'*' => Mark::Word,
+        b'^' => Mark::Semicolon,
         _ => Mark::Itself,
     }
 }
@@ -74,8 +78,10 @@ fn mark_of(c: u8) -> Mark {
 fn marked(mark: Mark, n: u64, word: &[u8]) {
     match mark {
         Mark::Figures(least) => number(n, least),
+        Mark::Unsaid => {}
         Mark::Hex => pair((n % 256) as u8),
         Mark::Word => say(word),
+        Mark::Semicolon => say(b";"),
         Mark::Itself => {}
     }
 }
@@ -84,6 +90,7 @@ fn marked(mark: Mark, n: u64, word: &[u8]) {
 fn used_up(mark: Mark, used: usize) -> usize {
     match mark {
         Mark::Figures(_) => one_more(used),
+        Mark::Unsaid => one_more(used),
         Mark::Hex => one_more(used),
         _ => used,
     }

@@ -1,5 +1,5 @@
-// Every word of the program: the requests; phrases, in which `%`, `&` and `$` stand for numbers, `~` for an octet and `*` for a word; and tables of
-// words, each ending with a semicolon. Another language is another file like this one.
+// Every word of the program: the requests; phrases, in which `%`, `&` and `$` stand for numbers, `_` for one that is not said, `~` for an octet, `*` for
+// a word and `^` for a semicolon; and tables of words, each ending with a semicolon. Another language is another file like this one.
 ghost use Prim.Native.Nat.{_<_};
 use crate::lines;
 use crate::voice::naming;
@@ -11,18 +11,18 @@ use crate::voice::word;
 
 // ---- requests, and what is the matter with them ----
 
-const REQUESTS: [u8; 135] =
-    *b"label;compare;frame;message;image;clock;buffer;power-on;session;octets;gap;run;ask;collect;state;book;italian;event;profile;characters;";
+const REQUESTS: [u8; 139] =
+    *b"label;compare;frame;message;image;clock;buffer;power-on;session;octets;gap;run;ask;collect;state;book;italian;event;profile;characters;why;";
 
 // Whether a text is the request's word, in large letters or small.
 pub(crate) fn is_request(text: &[u8], n: u8) -> bool
-    requires { ⌜ n < 20 ⌝ }
+    requires { ⌜ n < 21 ⌝ }
 {
     lines::is(text, nth(&REQUESTS, n))
 }
 
 pub(crate) fn request(n: u8)
-    requires { ⌜ n < 20 ⌝ }
+    requires { ⌜ n < 21 ⌝ }
 {
     naming(b" *", [0; 6], &REQUESTS, n)
 }
@@ -450,17 +450,6 @@ pub(crate) fn ordered(what: u8)
     )
 }
 
-pub(crate) fn rule(rule: u8)
-    requires { ⌜ rule < 19 ⌝ }
-{
-    naming(
-        b"rule: *",
-        [0; 6],
-        b"T or P/N set;type not offered;no session;point not in the image;session of another point;structure octet, octets or cause not as listed;record address not as listed;first object 0, last object over 6, or first after last;a label of readings not valid;first label of readings after the last in standard time;no reading chosen;a label of events not valid;first label of events after the last in standard time;no event chosen;clock not valid;no switch dates in the image;a label to set not valid;wrong password;accepted;",
-        rule,
-    )
-}
-
 pub(crate) fn reply() {
     phrase(b"reply", [0; 6])
 }
@@ -506,4 +495,104 @@ pub(crate) fn profile(profile: u8)
     requires { ⌜ profile < 2 ⌝ }
 {
     word(b", ten-bit profile;, eleven-bit profile;", profile)
+}
+
+// ---- why a message is refused: both tables are in document 01's order, and their last text is for a message that no rule refuses ----
+
+const RULES: [u8; 476] =
+    *b"T or P/N set;type not offered;no session;point not in the image;session of another point;shape;record address not as listed;first object 0, last object over 6, or first after last;a label of readings not valid;first label of readings after the last in standard time;no reading chosen;a label of events not valid;first label of events after the last in standard time;no event chosen;clock not valid;no switch dates in the image;a label to set not valid;wrong password;accepted;";
+
+const LOOK_AT: [u8; 1167] =
+    *b"octet 3, the cause: its two highest bits are T and P/N, and a request has both 0;octet 1, the type, and whether the centre is set up for another kind of meter;what came before: a reset, 187, a wrong password and power-on close a session;octets 4 and 5, the point with its low octet first, and whether this is the right meter;the last 183 that was accepted: it opened the session for its own point alone;octets 2 and 3, the structure octet with N and the cause, and whether the message was cut;octet 6, the record address;octets 7 and 8, the first object and the last;octets 9 to 13 for from, 14 to 18 for to;whether from and to are changed over, and SU: a label in summer time counts one hour earlier;which readings `image` lists for this point and record address;octets 7 to 11 for from, 12 to 16 for to;whether from and to are changed over, and SU: a label in summer time counts one hour earlier;which events `image` lists for this point and record address;the meter's clock, which 181 sets;whether this meter is meant to have switch dates;the octets of the label, from octet 7 on;which password the centre has for this point, and that its low octet is sent first;;";
+
+pub(crate) fn rule(rule: u8)
+    requires { ⌜ rule < 19 ⌝ }
+{
+    naming(b"rule: *", [0; 6], &RULES, rule)
+}
+
+pub(crate) fn look_at(rule: u8)
+    requires { ⌜ rule < 19 ⌝ }
+{
+    naming(b"look at: *", [0; 6], &LOOK_AT, rule)
+}
+
+// A rule and what would have been right by it. The numbers are the message's type, the session's point, the message's point, its record address, its
+// first and its last object.
+pub(crate) fn right(rule: u8, numbers: [u64; 6])
+    requires { ⌜ rule < 19 ⌝ }
+{
+    naming(b"*: ", [0; 6], &RULES, rule);
+    phrase_of(
+        b"both have to be 0^ ;100, 102, 103, 122, 123, 181, 183, 185, 186 and 187 are offered^ this one is %;% needs a session, open one with 183;the image has;_the session is for point %^ this one asks for %;% has;% has record address;____1 to 6 are offered, the first not after the last^ this one asks for % to %;from and to have to be valid;from may not come after to;__the image has none of point %, record address % in this range;from and to have to be valid;from may not come after to;__the image has none of point %, record address % in this range;% needs a valid clock;% needs switch dates, and the image has none;% sets only what is valid;__point % has another^ this one has ;no rule refuses it;",
+        rule,
+        numbers,
+    )
+}
+
+// The two highest bits of the cause's octet, of which one is set at least.
+pub(crate) fn marked(marks: u8)
+    requires { ⌜ marks < 4 ⌝ }
+{
+    word(b"neither is 1;P/N is 1;T is 1;both are 1;", marks)
+}
+
+// 0 the first point of the image, 1 a later one, 2 the point that is asked for.
+pub(crate) fn points(what: u8, point: u16)
+    requires { ⌜ what < 3 ⌝ }
+{
+    phrase_of(
+        b" %;, %;^ this one asks for %;",
+        what,
+        [point as u64, 0, 0, 0, 0, 0],
+    )
+}
+
+// The shape that is listed.
+pub(crate) fn shape(octets: u8, cause: u8, n: u8) {
+    phrase(
+        b" % octets, cause % and N %; this one has ",
+        [octets as u64, cause as u64, n as u64, 0, 0, 0],
+    )
+}
+
+// The shape that was found, as far as it differs: 1 in octets, 2 in cause, 4 in N, 8 by SQ, or the sum of some.
+pub(crate) fn shaped(differing: u8, octets: u64, cause: u8, n: u8)
+    requires { ⌜ differing < 12 ⌝ }
+{
+    phrase_of(
+        b";% octets;_cause %;% octets and cause %;__N %;% octets and _N %;_cause % and N %;% octets, cause % and N %;__SQ 1 and N %;% octets, _SQ 1 and N %;_cause %, SQ 1 and N %;% octets, cause %, SQ 1 and N %;",
+        differing,
+        [octets, cause as u64, n as u64, 0, 0, 0],
+    )
+}
+
+// 0 one alone, 1 those of events.
+pub(crate) fn addresses(which: u8, listed: u8, found: u8)
+    requires { ⌜ which < 2 ⌝ }
+{
+    phrase_of(
+        b" %^ this one has %; _52 to 55, 128 or 129^ this one has %;",
+        which,
+        [listed as u64, found as u64, 0, 0, 0, 0],
+    )
+}
+
+// What a label is that was found.
+pub(crate) fn found(label: u8)
+    requires { ⌜ label < 6 ⌝ }
+{
+    phrase(b"; ", [0; 6]);
+    role(label)
+}
+
+// Why no rule is asked: 0 the image, whose fault follows, 1 how many octets the message has.
+pub(crate) fn unasked(why: u8, many: u64)
+    requires { ⌜ why < 2 ⌝ }
+{
+    phrase_of(
+        b"image not sound: ;a message has 6 to 252 octets^ this one has %;",
+        why,
+        [many, 0, 0, 0, 0, 0],
+    )
 }

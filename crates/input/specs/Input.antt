@@ -2,7 +2,7 @@
 -- what the part is when no more come. Document 01, "The printing program", and the description of the driving face.
 -- Assumes nothing.
 use Prim.Native.Nat.{ℕ, _+_, _*_}
-use mathlib.Core.Bool.{Bool, true, false, not, _&&_}
+use mathlib.Core.Bool.{Bool, true, false, not, _&&_, _||_}
 use mathlib.Core.List.{List, [], _∷_}
 use lib.Dec.{ltb, eqb}
 use lib.ListN.{length, take, drop, getD, replicate}
@@ -64,6 +64,10 @@ runFound read =
     if ltb (length read) (runSize read) then run.Cut else
     run.Whole
 
+-- an O and a W have a 2-octet length and octets
+abbrev pub takesOctets : ℕ → Bool
+takesOctets letter = eqb letter 79 || eqb letter 87
+
 -- a P is a call of an eleven-bit card alone
 abbrev pub isEleven : Profile → Bool
 isEleven Ten = false
@@ -83,13 +87,13 @@ charactersIn [] = []
 charactersIn (octet ∷ []) = []
 charactersIn (octet ∷ bit ∷ rest) = record { octet = octet; parity = eqb bit 1 } ∷ charactersIn rest
 
--- a call: a letter, and what follows it: I, C, B, O, E, G or, of an eleven-bit card, P
+-- a call: a letter, and what follows it: I, C, B, O, E, G, W or, of an eleven-bit card, P
 unfoldable pub callSize : Profile → List ℕ → ℕ
 callSize p read =
     if eqb (getD read 0 0) 73 then (if ltb (length read) 4 then 4 else if ltb 65600 (lengthOf3 read 1) then 4 else 4 + lengthOf3 read 1) else
     if eqb (getD read 0 0) 67 then 8 else
     if eqb (getD read 0 0) 66 then 3 else
-    if eqb (getD read 0 0) 79 then (if ltb (length read) 3 then 3 else 3 + lengthOf2 read 1) else
+    if takesOctets (getD read 0 0) then (if ltb (length read) 3 then 3 else 3 + lengthOf2 read 1) else
     if takesCharacters p (getD read 0 0) then (if ltb (length read) 3 then 3 else 3 + 2 * lengthOf2 read 1) else
     1
 
@@ -103,6 +107,7 @@ wholeCall p read =
     if eqb (getD read 0 0) 69 then call.ElevenBits else
     if takesCharacters p (getD read 0 0) then (if areBits (drop 3 read) then call.Characters else call.Wrong) else
     if eqb (getD read 0 0) 71 then call.Gap else
+    if eqb (getD read 0 0) 87 then call.Why else
     call.Wrong
 
 unfoldable pub callFound : Profile → List ℕ → Call

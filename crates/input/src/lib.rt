@@ -1,6 +1,6 @@
 // How the programs' inputs are taken apart: functions on the octets read so far, so that a program only reads, calls and writes.
 ghost use mathlib.Core.Path.{_≡_};
-ghost use Rattle.input.specs.Input.{lengthOf2, lengthOf3, clockAt, headSize, imageIn, clockIn, headFound, runSize, runFound, takesCharacters, areBits, callSize, wholeCall, callFound};
+ghost use Rattle.input.specs.Input.{lengthOf2, lengthOf3, clockAt, headSize, imageIn, clockIn, headFound, runSize, runFound, takesOctets, takesCharacters, areBits, callSize, wholeCall, callFound};
 use profile::Profile;
 
 // What stands before the runs: another version, input that is cut, an unsound image, or all in order.
@@ -18,7 +18,7 @@ pub enum Run {
     Whole,
 }
 
-// A call of the driving program: none is left, one that is cut, one that is none, or one of the seven.
+// A call of the driving program: none is left, one that is cut, one that is none, or one of the eight.
 pub enum Call {
     End,
     Cut,
@@ -30,6 +30,7 @@ pub enum Call {
     ElevenBits,
     Characters,
     Gap,
+    Why,
 }
 
 // A 2-octet length, big-endian.
@@ -130,6 +131,16 @@ pub fn judge_run(read: &[u8]) -> Run
     Run::Whole
 }
 
+// Whether a letter is that of an O or a W: a 2-octet length and octets follow.
+fn takes_octets(letter: u8) -> bool
+    ensures { λ r. ⌜ r ≡ takesOctets letter ⌝ }
+{
+    if letter == b'O' {
+        return true;
+    }
+    letter == b'W'
+}
+
 // Whether a letter is that of a P: a call of an eleven-bit card alone.
 fn takes_characters(profile: Profile, letter: u8) -> bool
     ensures { λ r. ⌜ r ≡ takesCharacters profile letter ⌝ }
@@ -174,7 +185,7 @@ pub fn call_size(profile: Profile, read: &[u8]) -> usize
     if letter == b'B' {
         return 3;
     }
-    if letter == b'O' {
+    if takes_octets(letter) {
         if read.len() < 3 {
             return 3;
         }
@@ -222,6 +233,9 @@ fn whole_call(profile: Profile, read: &[u8]) -> Call
     }
     if letter == b'G' {
         return Call::Gap;
+    }
+    if letter == b'W' {
+        return Call::Why;
     }
     Call::Wrong
 }

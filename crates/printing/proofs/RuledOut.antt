@@ -7,15 +7,32 @@ use native.Mathlib.Omega.{arith}
 use contract.Lifetimes.{Lfts}
 use denote.Ref.{now}
 use lib.ListN.{length, getD, take, length-append}
+use Rattle.octets.specs.declared.Kept.{Kept}
+use Rattle.octets.specs.Calls.{added}
+use Rattle.octets.specs.Keeping.{keptOf}
+use Rattle.octets.specs.Over.{over}
+use Rattle.octets.proofs.Keeping.{added-fits}
 use Rattle.octets.proofs.Outcome.{RuledOut, RuledOutWith, Place, lent}
 use Rattle.deeds.specs.declared.Order.{Order}
 use Rattle.deeds.specs.declared.Order.the-variants.{NoOrder, SetClock}
 use Rattle.printing.specs.Text.{figures, decimal, hexFigure, pairOf, pairs}
 use Rattle.printing.specs.Line.{beginning, lineOf, gapLine}
 use Rattle.printing.proofs.Lines.{counted, laid, refused, kept}
+use Rattle.printing.proofs.with_decimal.Reads as with-decimal
 use Rattle.printing.proofs.put_text.Reads as put-text
 use Rattle.printing.proofs.line.Reads as line
 use Rattle.printing.proofs.gap_line.Reads as gap-line
+
+-- a number left out, whatever stands before it and has room behind
+with-decimal-kept : (text : Kept) → text .length ≤ 250 → RuledOut (with-decimal.Post tt) (text, (14, tt)) text
+unfolding decimal figures
+with-decimal-kept text room s p =
+    omega (arith, ap (λ (k : Kept). k .length) (p ∙ added-fits text (decimal 14) (omega (arith, room))))
+
+-- its figures the wrong way round: 41 for 14
+with-decimal-turned : RuledOut (with-decimal.Post tt) (keptOf [], (14, tt)) (keptOf (52 ∷ 49 ∷ []))
+unfolding decimal figures added keptOf over
+with-decimal-turned s p = omega (arith, ap (λ (k : Kept). getD (k .octets) 0 0) p)
 
 module _ (κs : Lfts 2) (x y : Place) (out : List ℕ) where
   -- whatever a text is

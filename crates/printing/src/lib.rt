@@ -4,9 +4,11 @@ ghost use mathlib.Core.List.{_++_};
 ghost use mathlib.Core.Path.{_≡_};
 ghost use lib.Dec.{ltb};
 ghost use lib.ListN.{length, take};
+ghost use Rattle.octets.specs.Calls.{added};
 ghost use Rattle.printing.specs.Text.{decimal, hexFigure, pairOf, pairs};
 ghost use Rattle.printing.specs.Line.{space, newline, word, beginning, dashFor, timeText, lineOf, gapLine, PutAt, PutShort, Lined};
 use deeds::Order;
+use octets::Kept;
 
 fn hex_figure(n: u8) -> u8
     requires { ⌜ n < 16 ⌝ }
@@ -188,6 +190,15 @@ fn lay(out: &mut [u8], text: &[u8], end: usize, before: &[u8], octets: &[u8]) ->
         return put_line(out, head, before, octets);
     }
     0
+}
+
+// A text that is kept, and a number behind it.
+pub fn with_decimal(text: Kept, n: u64) -> Kept
+    ensures { λ r. ⌜ r ≡ added text (decimal n) ⌝ }
+{
+    let mut figures = [0u8; 20];
+    let count = io::decimal(n, &mut figures);
+    text.with(&figures[..count])
 }
 
 // Writes a text, or nothing where it does not fit, and answers how many octets are written.

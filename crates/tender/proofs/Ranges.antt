@@ -2,17 +2,16 @@
 -- A message is a header, objects of six octets one after the other, and a label; the rules see nothing of the objects but whether they are offered.
 -- Assumes nothing.
 use Prim.Native.Nat.{ℕ, _+_, _-_, _≤_, _<_}
-use mathlib.Core.Bool.{Bool, true, false, _||_}
+use mathlib.Core.Bool.{Bool, true, false, not, _||_}
 use mathlib.Core.List.{List, [], _∷_}
-use mathlib.Core.Path.{_≡_, refl, sym}
+use mathlib.Core.Path.{_≡_, refl, ap}
 use native.Mathlib.Omega.{arith}
-use borrow.Author.Tests.{eqb-true, leb-false}
-use lib.Dec.{eqb, leb}
+use borrow.Author.Tests.{eqb-true}
+use lib.Dec.{eqb}
 use lib.ListN.{length, getD, take, drop}
 use lib.Seq.{drop-cons}
-use Rattle.octets.specs.Conditions.{holds}
 use Rattle.octets.specs.Numbers.{lowOctets}
-use Rattle.octets.proofs.Choice.{refuted, not-both}
+use Rattle.octets.proofs.Choice.{flipped}
 use Rattle.octets.proofs.Keeping.{octets-back}
 use Rattle.octets.proofs.Numbers.{Octets, octets-take, octets-drop}
 use Rattle.records.specs.Records.{sizeOf, recordAt}
@@ -27,7 +26,7 @@ use Rattle.message.specs.Table.{table, rowIn}
 use Rattle.message.specs.Headers.{headerOf, headerOctets}
 use Rattle.message.specs.Requests.{objectsOffered, objectsMany, asksReadings, labelsFrom, requestOf}
 use Rattle.message.specs.Calls.{Offered}
-use Rattle.message.proofs.Requests.{offered-so, so-offered}
+use Rattle.message.proofs.Requests.{so-offered}
 use Rattle.choice.specs.declared.Span.{Span}
 use Rattle.choice.specs.declared.Query.{Query}
 use Rattle.choice.specs.declared.Query.the-variants.{Reading}
@@ -45,8 +44,9 @@ use Rattle.data.specs.Messages.{replyHeader, objectOctets, readingReply}
 use Rattle.data.specs.Portions.{portion, readingPortion, nextReading}
 use Rattle.data.proofs.Messages.{object-number, object-value, object-quality, reading-length, object-there, label-there}
 use Rattle.waiting.specs.NextReply.{dataFrom}
+use Rattle.why.proofs.Stated.{objects-told}
 use Rattle.tender.specs.Rules.{requestIn}
-use Rattle.tender.specs.Ranges.{manyIn, numberOf, ObjectOf, Stands, Carries, ObjectsCarried, OfTheKept, Faulty, first-zero, last-over, first-after, Seventeen, asking, ChosenWhatever, RangesWritten}
+use Rattle.tender.specs.Ranges.{manyIn, numberOf, ObjectOf, Stands, Carries, ObjectsCarried, OfTheKept, Seventeen, asking, ChosenWhatever, RangesWritten}
 use Rattle.tender.proofs.Worked.{everything}
 
 -- a record of an image has octets of the image, and so has a chosen one
@@ -121,27 +121,6 @@ objects-carried image octets span objects offered type before less =
     rw (next-there image span objects offered type before less, octets-back (readingReply type (span .point) (span .record_address) objects r))
     (refl, carried type span objects offered r (octets-chosen (Reading span) image before octets less))
 
--- objects that are not offered are faulty, and the other way round
-refused-faulty : (objects : ObjectRange) → objectsOffered objects ≡ false → Faulty objects
-unfolding objectsOffered holds
-refused-faulty objects =
-    by-tests (leb 1 (objects .first)) (leb (objects .first) (objects .last)) (leb (objects .last) 6) refl refl refl
-  where
-    by-tests : (a b c : Bool) → leb 1 (objects .first) ≡ a → leb (objects .first) (objects .last) ≡ b → leb (objects .last) 6 ≡ c
-        → holds (a ∷ b ∷ c ∷ []) ≡ false → Faulty objects
-    by-tests false b c zero r o e = first-zero (omega (arith, leb-false 1 (objects .first) zero))
-    by-tests true false c z falling o e = first-after (leb-false (objects .first) (objects .last) falling)
-    by-tests true true false z r over e = last-over (leb-false (objects .last) 6 over)
-    by-tests true true true z r o e = absurd (not-both e refl)
-
-faulty-refused : (objects : ObjectRange) → Faulty objects → objectsOffered objects ≡ false
-faulty-refused objects f = sym (refuted (objectsOffered objects) (λ offered. no-fault f (offered-so objects offered)))
-  where
-    no-fault : Faulty objects → Offered objects → ⊥
-    no-fault (first-zero zero) o = omega (arith, zero, o .from-one)
-    no-fault (last-over over) o = omega (arith, over, o .to-six)
-    no-fault (first-after falling) o = omega (arith, falling, o .rising)
-
 pub seventeen : Seventeen
 seventeen =
     record {
@@ -149,8 +128,8 @@ seventeen =
       its-pn = refl;
       only-so = λ session image clock r e.
           let refused = objects-only session image clock r e in
-          (refused .0, refused-faulty (r .objects) (refused .1));
-      so = λ session image clock r asks faulty. objects-refused session image clock r asks (faulty-refused (r .objects) faulty);
+          (refused .0, objects-told (r .objects) .yes (ap not (refused .1)));
+      so = λ session image clock r asks out. objects-refused session image clock r asks (flipped _ _ (objects-told (r .objects) .only out));
     }
 
 -- a type that asks for readings is no other one

@@ -63,7 +63,7 @@ between-length request some = omega (arith, length-append some (mirrorOf request
 
 -- one row and those behind it
 infixr 2 _and_
-_and_ : {A B : Type 0} → A → B → A × B
+pub _and_ : {A B : Type 0} → A → B → A × B
 a and b = (a, b)
 
 -- an accepted request
@@ -143,7 +143,7 @@ pub waiting-replies : WaitingReplies
 waiting-replies session image clock request sound first = rows session image clock request first sound
 
 -- the mirror of a rule is given last
-mirror-next : (request : Kept) (clock image : List ℕ) (rule : Rule)
+pub mirror-next : (request : Kept) (clock image : List ℕ) (rule : Rule)
     → nextBy request (mirrorBy rule) clock image ≡ lastly (mirrorOf request (pnBit (pnBy rule)) (causeBy rule))
 unfolding mirrorWith
 mirror-next request clock image rule =

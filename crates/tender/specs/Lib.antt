@@ -8,5 +8,7 @@ pub mod Cases
 pub mod Ranges
 pub mod AutumnHour
 pub mod ElevenBits
+pub mod Why
+pub mod WhyCases
 pub mod Wrong
 pub mod Unruly

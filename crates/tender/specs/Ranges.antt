@@ -30,6 +30,7 @@ use Rattle.rules.specs.Rules.{causeBy, pnBy}
 use Rattle.rules.specs.Decide.{spanOf, rules, decide}
 use Rattle.data.specs.Calls.{objectPart}
 use Rattle.data.specs.Portions.{nextReading}
+use Rattle.why.specs.Stated.{ObjectsOut}
 use Rattle.tender.specs.Cases.{smallest, ourPoint}
 use Rattle.waiting.specs.NextReply.{readingType, dataFrom}
 use Rattle.tender.specs.Rules.{requestIn, spanIn, collectedAfter}
@@ -82,20 +83,14 @@ OfTheKept =
     ≡ nextReading (readingType (requestIn request .header .«type_id»)) (spanIn request)
     (record { first = getD (octetsOf request) 6 0; last = getD (octetsOf request) 7 0 }) image before
 
--- "first is 0, last is over 6 or first is after last"
-pub data Faulty (objects : ObjectRange) : Type 0 where
-  first-zero : objects .first ≡ 0 → Faulty objects
-  last-over : 6 < objects .last → Faulty objects
-  first-after : objects .last < objects .first → Faulty objects
-
--- "17 now exactly when ..; its place is unchanged": for a 122 or a 123 with such objects only, and for each, unless a rule of all messages applies before; so no
+-- "17 now exactly when first is 0, last is over 6 or first is after last; its place is unchanged": for a 122 or a 123 with such objects only, and for each, unless a rule of all messages applies before; so no
 -- label is looked at and no reading is looked for. The rule that is given then has this cause, with P/N 0
 pub record Seventeen : Type 0 where
   pub its-cause : causeBy Objects ≡ 17
   pub its-pn : pnBy Objects ≡ false
   pub only-so : (session : Session) (image clock : List ℕ) (r : Request) → causeBy (decide session image clock r) ≡ 17
-      → (asksReadings (r .header .«type_id») ≡ true) × Faulty (r .objects)
-  pub so : (session : Session) (image clock : List ℕ) (r : Request) → asksReadings (r .header .«type_id») ≡ true → Faulty (r .objects)
+      → (asksReadings (r .header .«type_id») ≡ true) × ObjectsOut (r .objects .first) (r .objects .last)
+  pub so : (session : Session) (image clock : List ℕ) (r : Request) → asksReadings (r .header .«type_id») ≡ true → ObjectsOut (r .objects .first) (r .objects .last)
       → decide session image clock r ≡ (firstOf rules session image r else Objects)
 
 -- the octets of a request for readings: header, objects, labels

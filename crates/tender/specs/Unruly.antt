@@ -1,14 +1,16 @@
--- Unruly cards: each does what ours does but for one thing, which a rule of `Rules` forbids.
+-- Unruly cards: each does what ours does but for one thing, which a rule of `Rules` or a statement of `Why` forbids.
 -- Assumes nothing.
 use Prim.Native.Nat.{ℕ}
 use mathlib.Core.Bool.{Bool, _||_}
-use lib.Dec.{eqb}
+use lib.Dec.{eqb, ltb}
 use lib.ListN.{getD}
 use Rattle.octets.specs.Choice.{if_then_else_}
 use Rattle.frame.specs.Writing.{replyOctets}
 use Rattle.rules.specs.declared.Session.{Session}
 use Rattle.rules.specs.declared.Session.the-variants.{Closed}
 use Rattle.deeds.specs.declared.Order.the-variants.{SetClock}
+use Rattle.deeds.specs.declared.Waiting.{Waiting}
+use Rattle.deeds.specs.declared.Waiting.the-variants.{NoReply, Mirror, Denied, Begin, More, Type71, Type72, Type131}
 use Rattle.deeds.specs.Deeds.{nothingPending}
 use Rattle.card.specs.declared.Card.{Card}
 use Rattle.tender.specs.Card.{GapCall, ourGap}
@@ -65,3 +67,20 @@ stayingOpen = gapLeaving (λ card loan seen left. if eqb (octetAt 7 card) 187 th
 -- a collection closes the session
 abbrev pub closingAtCollection : GapCall
 closingAtCollection = gapLeaving (λ card loan seen left. if isCollection card then withSession Closed left else left)
+
+-- every refusal by cause has cause 14
+abbrev pub fourteen : Waiting → Waiting
+fourteen (Mirror cause) = Mirror (if ltb cause 13 then cause else 14)
+fourteen NoReply = NoReply
+fourteen Denied = Denied
+fourteen Begin = Begin
+fourteen (More before) = More before
+fourteen Type71 = Type71
+fourteen Type72 = Type72
+fourteen Type131 = Type131
+
+abbrev pub alwaysFourteen : GapCall
+alwaysFourteen =
+    gapLeaving (λ card loan seen left.
+    let pending = left .link .pending in
+    linkedBy (awaiting (record { waiting = fourteen (pending .waiting); request = pending .request; clock = pending .clock }) (left .link)) left)

@@ -3,9 +3,9 @@
 use borrow.Author.Needs.{needs}
 use Rattle.card.proofs.State.{sent-all}
 use Rattle.input.specs.declared.Call.the-variants as call
-use Rattle.driving.specs.Driven.{withImage, withClock, withRoom, withCard, withProfile, afterCall}
+use Rattle.driving.specs.Driven.{withImage, withClock, withRoom, withCard, withProfile, whyText, whyStep, afterCall}
 use Rattle.driving.specs.Stepped.{benchOf}
-use Rattle.driving.proofs.Stepping.{rest-all, last-stepped, silent-stepped, call-stepped}
+use Rattle.driving.proofs.Stepping.{rest-all, kept-stepped, silent-stepped, call-stepped}
 use Rattle.driving.proofs.step.Statement.{statement}
 use Rattle.driving.proofs.step.Tie as tie
 
@@ -102,6 +102,15 @@ enum-told-10 c = search needs
 gap-requires : tie.Need-gap-requires
 gap-requires c κs = search needs
 
+enum-told-11 : tie.Need-enum-told-11
+enum-told-11 c = search needs
+
+part-requires-3 : tie.Need-part-requires-3
+part-requires-3 c κs = search needs
+
+asked-requires : tie.Need-asked-requires
+asked-requires c κs = search needs
+
 same-length : tie.Need-same-length
 same-length c = search needs
 
@@ -110,7 +119,7 @@ unfolding afterCall benchOf
 returns c =
     let a = c .before .before .before .before .before .before .before .before .before .before .before .before .before .before .args in
     call-stepped _ (benchOf (a .held) (a .image .now) (a .buffer .now)) _ call.End (c .before .before .before .before .before .before .before .judge-call .ensures)
-    (c .before .before .before .before .before .enum-told .given .1) (last-stepped _ _ _ _ _ (c .before .before .last .ensures))
+    (c .before .before .before .before .before .enum-told .given .1) (kept-stepped _ _ _ _ _ _ (c .before .before .last .ensures))
 
 same-length-2 : tie.Need-same-length-2
 same-length-2 c = search needs
@@ -120,7 +129,7 @@ unfolding afterCall benchOf
 returns-2 c =
     let a = c .before .before .before .before .before .before .before .before .before .before .before .before .before .before .args in
     call-stepped _ (benchOf (a .held) (a .image .now) (a .buffer .now)) _ call.Cut (c .before .before .before .before .before .before .before .judge-call .ensures)
-    (c .before .before .before .before .before .enum-told2 .given .1) (last-stepped _ _ _ _ _ (c .before .before .last2 .ensures))
+    (c .before .before .before .before .before .enum-told2 .given .1) (kept-stepped _ _ _ _ _ _ (c .before .before .last2 .ensures))
 
 same-length-3 : tie.Need-same-length-3
 same-length-3 c = search needs
@@ -130,7 +139,7 @@ unfolding afterCall benchOf
 returns-3 c =
     let a = c .before .before .before .before .before .before .before .before .before .before .before .before .before .before .args in
     call-stepped _ (benchOf (a .held) (a .image .now) (a .buffer .now)) _ call.Wrong (c .before .before .before .before .before .before .before .judge-call .ensures)
-    (c .before .before .before .before .before .enum-told3 .given .1) (last-stepped _ _ _ _ _ (c .before .before .last3 .ensures))
+    (c .before .before .before .before .before .enum-told3 .given .1) (kept-stepped _ _ _ _ _ _ (c .before .before .last3 .ensures))
 
 returns-4 : tie.Need-returns-4
 unfolding afterCall benchOf withImage
@@ -187,6 +196,16 @@ returns-10 c =
     call-stepped _ (benchOf (a .held) (a .image .now) (a .buffer .now)) _ call.Gap (c .before .before .before .before .before .before .before .before .before .judge-call .ensures)
     (c .before .before .before .before .before .before .before .enum-told10 .given .1) (c .before .before .before .before .gap .ensures)
 
+same-length-6 : tie.Need-same-length-6
+same-length-6 c = search needs
+
+returns-11 : tie.Need-returns-11
+unfolding afterCall benchOf whyText whyStep
+returns-11 c =
+    let a = c .before .before .before .before .before .before .before .before .before .before .before .before .before .before .args in
+    call-stepped _ (benchOf (a .held) (a .image .now) (a .buffer .now)) _ call.Why (c .before .before .before .before .before .before .before .judge-call .ensures)
+    (c .before .before .before .before .before .enum-told11 .given .1) (kept-stepped _ _ _ _ _ _ (rw (c .before .before .before .part3 .ensures, rest-all) at (c .before .before .asked .ensures)))
+
 pub step-spec : {M : Type 1} → statement M
 step-spec =
     tie.close
@@ -222,6 +241,9 @@ step-spec =
     silent-requires-6
     enum-told-10
     gap-requires
+    enum-told-11
+    part-requires-3
+    asked-requires
     same-length
     returns
     same-length-2
@@ -236,4 +258,6 @@ step-spec =
     returns-9
     same-length-4
     same-length-5
-    returns-10)
+    returns-10
+    same-length-6
+    returns-11)

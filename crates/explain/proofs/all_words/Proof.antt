@@ -11,7 +11,7 @@ abbrev Inv-loop : tie.InvT-loop
 Inv-loop n₀ n = Unit {0}
 
 abbrev μ-loop : tie.MeasureT-loop
-μ-loop n₀ n = 20 - n
+μ-loop n₀ n = 21 - n
 
 loop-holds : tie.Need-loop-holds Inv-loop μ-loop
 loop-holds c = search needs

@@ -39,9 +39,12 @@ returns-5 : tie.Need-returns-5
 unfolding callSize
 returns-5 c = rw (← (c .before .before .before .octet-at .ensures)) (search tests)
 
+takes-octets-requires : tie.Need-takes-octets-requires
+takes-octets-requires c κs = search needs
+
 returns-6 : tie.Need-returns-6
 unfolding callSize
-returns-6 c = rw (← (c .before .before .before .before .before .octet-at .ensures)) (search tests)
+returns-6 c = rw (← (c .before .before .before .before .before .before .octet-at .ensures), told (c .before .before .takes-octets .ensures) (c .before .if6 .taken)) (search (tests, c .before .before .before .if5 .left, c .before .before .before .before .if4 .left, c .before .before .before .before .before .if1 .left))
 
 length-of-2-requires : tie.Need-length-of-2-requires
 length-of-2-requires c κs = search needs
@@ -54,7 +57,7 @@ add-result-2 c = search needs
 
 returns-7 : tie.Need-returns-7
 unfolding callSize
-returns-7 c = rw (← (c .length-of-2 .ensures), ← (c .before .before .before .before .before .before .octet-at .ensures)) (search tests)
+returns-7 c = rw (← (c .length-of-2 .ensures), ← (c .before .before .before .before .before .before .before .octet-at .ensures), told (c .before .before .before .takes-octets .ensures) (c .before .before .if6 .taken)) (search (tests, c .before .before .before .before .if5 .left, c .before .before .before .before .before .if4 .left, c .before .before .before .before .before .before .if1 .left))
 
 takes-characters-requires : tie.Need-takes-characters-requires
 takes-characters-requires c κs = search needs
@@ -62,8 +65,12 @@ takes-characters-requires c κs = search needs
 returns-8 : tie.Need-returns-8
 unfolding callSize
 returns-8 c =
-    rw (← (c .before .before .before .before .before .before .before .octet-at .ensures), told (c .before .before .takes-characters .ensures) (c .before .if8 .taken))
-    (search (tests, c .before .before .before .if6 .left, c .before .before .before .before .if5 .left, c .before .before .before .before .before .if4 .left, c .before .before .before .before .before .before .if1 .left))
+    rw (
+      ← (c .before .before .before .before .before .before .before .before .octet-at .ensures),
+      told (c .before .before .before .before .takes-octets .ensures) (c .before .before .before .if6 .left),
+      told (c .before .before .takes-characters .ensures) (c .before .if8 .taken),
+    )
+    (search (tests, c .before .before .before .before .before .if5 .left, c .before .before .before .before .before .before .if4 .left, c .before .before .before .before .before .before .before .if1 .left))
 
 length-of-2-requires-2 : tie.Need-length-of-2-requires-2
 length-of-2-requires-2 c κs = search needs
@@ -82,16 +89,21 @@ unfolding callSize
 returns-9 c =
     rw (
       ← (c .length-of-22 .ensures),
-      ← (c .before .before .before .before .before .before .before .before .octet-at .ensures),
+      ← (c .before .before .before .before .before .before .before .before .before .octet-at .ensures),
+      told (c .before .before .before .before .before .takes-octets .ensures) (c .before .before .before .before .if6 .left),
       told (c .before .before .before .takes-characters .ensures) (c .before .before .if8 .taken),
     )
-    (search (tests, c .before .before .before .before .if6 .left, c .before .before .before .before .before .if5 .left, c .before .before .before .before .before .before .if4 .left, c .before .before .before .before .before .before .before .if1 .left))
+    (search (tests, c .before .before .before .before .before .before .if5 .left, c .before .before .before .before .before .before .before .if4 .left, c .before .before .before .before .before .before .before .before .if1 .left))
 
 returns-10 : tie.Need-returns-10
 unfolding callSize
 returns-10 c =
-    rw (← (c .before .before .before .before .before .before .octet-at .ensures), told (c .before .takes-characters .ensures) (c .if8 .left))
-    (search (tests, c .before .before .if6 .left, c .before .before .before .if5 .left, c .before .before .before .before .if4 .left, c .before .before .before .before .before .if1 .left))
+    rw (
+      ← (c .before .before .before .before .before .before .before .octet-at .ensures),
+      told (c .before .before .before .takes-octets .ensures) (c .before .before .if6 .left),
+      told (c .before .takes-characters .ensures) (c .if8 .left),
+    )
+    (search (tests, c .before .before .before .before .if5 .left, c .before .before .before .before .before .if4 .left, c .before .before .before .before .before .before .if1 .left))
 
 pub call-size-spec : {M : Type 1} → statement M
 call-size-spec =
@@ -106,6 +118,7 @@ call-size-spec =
     returns-3
     returns-4
     returns-5
+    takes-octets-requires
     returns-6
     length-of-2-requires
     cast-result-2

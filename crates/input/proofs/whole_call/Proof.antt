@@ -75,8 +75,14 @@ returns-10 c =
 returns-11 : tie.Need-returns-11
 unfolding wholeCall
 returns-11 c =
-    rw (← (c .before .before .before .before .before .before .before .before .octet-at .ensures), told (c .before .before .takes-characters .ensures) (c .before .if8 .left))
-    (search (tests, c .before .before .before .if7 .left, c .before .before .before .before .if6 .left, c .before .before .before .before .before .if4 .left, c .before .before .before .before .before .before .if3 .left, c .before .before .before .before .before .before .before .if1 .left))
+    rw (← (c .before .before .before .before .before .before .before .before .before .octet-at .ensures), told (c .before .before .before .takes-characters .ensures) (c .before .before .if8 .left))
+    (search (tests, c .if11 .taken))
+
+returns-12 : tie.Need-returns-12
+unfolding wholeCall
+returns-12 c =
+    rw (← (c .before .before .before .before .before .before .before .before .before .octet-at .ensures), told (c .before .before .before .takes-characters .ensures) (c .before .before .if8 .left))
+    (search (tests, c .if11 .left, c .before .if10 .left, c .before .before .before .before .if7 .left, c .before .before .before .before .before .if6 .left, c .before .before .before .before .before .before .if4 .left, c .before .before .before .before .before .before .before .if3 .left, c .before .before .before .before .before .before .before .before .if1 .left))
 
 pub whole-call-spec : {M : Type 1} → statement M
 whole-call-spec =
@@ -98,4 +104,5 @@ whole-call-spec =
     returns-8
     returns-9
     returns-10
-    returns-11)
+    returns-11
+    returns-12)

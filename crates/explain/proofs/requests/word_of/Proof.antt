@@ -11,7 +11,7 @@ abbrev Inv-loop : tie.InvT-loop
 Inv-loop text n₀ n = Unit {0}
 
 abbrev μ-loop : tie.MeasureT-loop
-μ-loop text n₀ n = 20 - n
+μ-loop text n₀ n = 21 - n
 
 loop-holds : tie.Need-loop-holds Inv-loop μ-loop
 loop-holds c = search needs
