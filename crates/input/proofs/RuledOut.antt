@@ -200,6 +200,16 @@ module _ (κs : Lfts 1) (x y : Place) where
   unfolding callFound callSize wholeCall areBits lengthOf2 highFirst lowFirst
   judge-call-bit octet s p = never (cc)
 
+  -- the message of a W taken for octets of the line
+  judge-call-why : (octet : ℕ) → RuledOut (judge-call.Post κs) (Eleven, (lent x (87 ∷ 0 ∷ 1 ∷ octet ∷ []), tt)) call.Octets
+  unfolding callFound callSize wholeCall lengthOf2 highFirst lowFirst
+  judge-call-why octet s p = never (cc)
+
+  -- a W not waited for
+  call-size-why : RuledOut (call-size.Post κs) (Ten, (lent x (87 ∷ 0 ∷ 2 ∷ []), tt)) 3
+  unfolding callSize lengthOf2 highFirst lowFirst
+  call-size-why s p = omega arith
+
   -- a P that waits for one octet a character
   call-size-characters : RuledOut (call-size.Post κs) (Eleven, (lent x (80 ∷ 0 ∷ 1 ∷ []), tt)) 4
   unfolding callSize lengthOf2 highFirst lowFirst

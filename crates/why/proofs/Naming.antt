@@ -87,7 +87,7 @@ pub words-differ : {a b : Rule} → wordOf a ≡ wordOf b → a ≡ b
 unfolding lowFirst
 words-differ = texts-differ wordOf refl refl
 
--- the words as the code has them: a blank behind each letter up to thirteen, and how many letters count
+-- the words as the code has them: each with blanks behind it up to thirteen letters, and how many letters count
 abbrev pub letters : List ℕ
 letters = map (λ r. length (wordOf r)) everyRule
 
@@ -98,10 +98,7 @@ pub word-there : (rule : Rule) → take (getD letters (placeOf rule - 1) 0) (dro
 unfolding flatten
 word-there = for-each (λ r. take (getD letters (placeOf r - 1) 0) (drop ((placeOf r - 1) * 13) words)) wordOf refl refl
 
--- no word is longer
-pub word-short : (rule : Rule) → length (wordOf rule) ≤ 13
-word-short rule = leb-true (length (wordOf rule)) 13 (for-each (λ r. leb (length (wordOf r)) 13) (λ r. true) refl refl rule)
-
+-- no word has more letters
 pub letters-few : (rule : Rule) → getD letters (placeOf rule - 1) 0 ≤ 13
 letters-few rule =
     leb-true (getD letters (placeOf rule - 1) 0) 13 (for-each (λ r. leb (getD letters (placeOf r - 1) 0) 13) (λ r. true) refl refl rule)

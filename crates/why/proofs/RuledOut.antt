@@ -89,7 +89,7 @@ line-password : RuledOut (line.Post tt) (Named WrongPassword, tt)
 unfolding whyLine ruledText keptOf over decimal figures
 line-password s p = omega (arith, ap (λ (k : Kept). getD (k .octets) 17 0) p)
 
--- a number in place of a refusal's other: why 1 - - - for a message that is too short
+-- the other refusal's number: why 1 - - - for the length of a message
 line-refusal : RuledOut (line.Post tt) (MessageLength, tt) (keptOf (119 ∷ 104 ∷ 121 ∷ 32 ∷ 49 ∷ 32 ∷ 45 ∷ 32 ∷ 45 ∷ 32 ∷ 45 ∷ 10 ∷ []))
 unfolding whyLine keptOf over decimal figures
 line-refusal s p = omega (arith, ap (λ (k : Kept). getD (k .octets) 4 0) p)

@@ -47,7 +47,7 @@ use Rattle.why.specs.Stated.{Some, typeIn, structureIn, causeIn, pointIn
 use Rattle.why.proofs.Naming.{in-places, declared-place, places-differ}
 use Rattle.why.proofs.Asking.{named-so, named-only}
 use Rattle.why.proofs.InImage.{point-there, password-there, dates-there}
-use Rattle.why.proofs.Telling.{Tells, by-same, in-words, so, fails, nor, and-then, and, or, alone, is, at-most, none, bit-set, one-fails, empty}
+use Rattle.why.proofs.Telling.{Tells, by-same, in-words, so, fails, negated, and-then, and, or, alone, is, at-most, none, bit-set, one-fails, empty}
 
 -- of rows with different types: whether one has a type, and whether the one of that type is as Q says
 abbrev apart : List Row → Bool
@@ -90,7 +90,7 @@ module _ (type : ℕ) where
         here e (inl o) = o .1
         here e (inr later) =
             absurd
-            (nor (listed (rowIn rs type)) (listed-told rs) .yes
+            (negated (listed (rowIn rs type)) (listed-told rs) .yes
             (ap (λ (n : ℕ). not (listed (rowIn rs n))) (sym e) ∙ and-left (not (listed (rowIn rs (r .«type_id»)))) _ a)
             (some-so (λ (w : Row) o. o .0) rs later))
 
@@ -148,7 +148,7 @@ other-told Closed point = record { yes = λ e. absurd (false≢true e); only = �
 other-told (Open p) point =
     in-words (λ (other : p .0 ≡ point .0 → ⊥). (λ e. false≢true (ap isClosed e), λ e. other (ap addressIn e)))
     (λ neither e. neither .1 (ap (λ (n : ℕ). Open (record { 0 = n })) e))
-    (nor (eqb (p .0) (point .0)) (is (p .0) (point .0)))
+    (negated (eqb (p .0) (point .0)) (is (p .0) (point .0)))
   where
     addressIn : Session → ℕ
     addressIn Closed = 0
@@ -212,20 +212,20 @@ module _ (session : Session) (image clock m : List ℕ) (sound : soundImage imag
       alone
       (or (not (eqb (tOf (causeIn m)) 0)) (bit-set (tOf (causeIn m)) (omega arith))
       (bit-set (pnOf (causeIn m)) (omega arith)))
-  rule-told UnknownType = alone (nor (listed (rowIn table type)) (listed-told type table))
-  rule-told NoSession = alone (and (isClosed session) (closed-told session) (nor (eqb type 183) (is type 183)))
+  rule-told UnknownType = alone (negated (listed (rowIn table type)) (listed-told type table))
+  rule-told NoSession = alone (and (isClosed session) (closed-told session) (negated (eqb type 183) (is type 183)))
   rule-told UnknownPoint = alone (none-there (isPoint (pointIn m)) (point-there image sound point))
-  rule-told OtherSession = alone (and (isOther session point) (other-told session point) (nor (eqb type 183) (is type 183)))
+  rule-told OtherSession = alone (and (isOther session point) (other-told session point) (negated (eqb type 183) (is type 183)))
   rule-told Shape =
       alone
-      (nor (shaped (rowIn table type) (requestOf m))
+      (negated (shaped (rowIn table type) (requestOf m))
       (found-told type (ShapeAs m) (λ (found : RowFound). shaped found (requestOf m)) refl
       (λ (w : Row). and (eqb (structureIn m) (w .count)) (is (structureIn m) (w .count))
       (and (eqb (length m) (w .octets)) (is (length m) (w .octets)) (is (bits 1 to 6 of (causeIn m)) (w .cause))))
       table apart-table))
   rule-told Address =
       alone
-      (nor (addressed (rowIn table type) (recordIn m))
+      (negated (addressed (rowIn table type) (recordIn m))
       (found-told type (λ (w : Row). RecordAs m (w .addresses)) (λ (found : RowFound). addressed found (recordIn m)) refl
       (λ (w : Row). record-told m (w .addresses)) table apart-table))
   rule-told Objects = alone (and (asksReadings type) (asks-told m) (objects-told (requestOf m .objects)))

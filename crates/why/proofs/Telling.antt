@@ -31,9 +31,9 @@ fails true = record { yes = λ e. sym e; only = λ e. sym e }
 fails false = record { yes = λ e. refl; only = λ e. refl }
 
 -- not; and, where the second may use the first; or
-pub nor : {H : Type 0} (t : Bool) → Tells H t → Tells (H → ⊥) (not t)
-nor true tells = record { yes = λ e h. false≢true e; only = λ no. absurd (no (tells .yes refl)) }
-nor false tells = record { yes = λ e h. not-both refl (tells .only h); only = λ no. refl }
+pub negated : {H : Type 0} (t : Bool) → Tells H t → Tells (H → ⊥) (not t)
+negated true tells = record { yes = λ e h. false≢true e; only = λ no. absurd (no (tells .yes refl)) }
+negated false tells = record { yes = λ e h. not-both refl (tells .only h); only = λ no. refl }
 
 pub and-then : {H K : Type 0} (t : Bool) {u : Bool} → Tells H t → (t ≡ true → Tells K u) → Tells (H × K) (t && u)
 and-then true tells more =
@@ -62,11 +62,11 @@ pub at-most : (a b : ℕ) → Tells (a ≤ b) (leb a b)
 at-most a b = record { yes = leb-true a b; only = le-leb a b }
 
 pub none : (n : ℕ) → Tells (n ≡ 0) (not (ltb 0 n))
-none n = in-words (λ no. omega (arith, no)) (λ e h. omega (arith, e, h)) (nor (ltb 0 n) (record { yes = ltb-true 0 n; only = lt-ltb 0 n }))
+none n = in-words (λ no. omega (arith, no)) (λ e h. omega (arith, e, h)) (negated (ltb 0 n) (record { yes = ltb-true 0 n; only = lt-ltb 0 n }))
 
 -- a bit is set
 pub bit-set : (n : ℕ) → n < 2 → Tells (n ≡ 1) (not (eqb n 0))
-bit-set n h = in-words (λ no. omega (arith, h, no)) (λ e z. omega (arith, e, z)) (nor (eqb n 0) (is n 0))
+bit-set n h = in-words (λ no. omega (arith, h, no)) (λ e z. omega (arith, e, z)) (negated (eqb n 0) (is n 0))
 
 -- one of two tests fails
 pub one-fails : (t u : Bool) → Tells ((t ≡ false) ⊎ (u ≡ false)) (not (t && u))

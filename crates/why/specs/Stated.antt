@@ -62,7 +62,7 @@ abbrev pub RecordAs : List ℕ → Addresses → Type 0
 RecordAs m (Only a) = recordIn m ≡ a
 RecordAs m Events = ((52 ≤ recordIn m) × (recordIn m ≤ 55)) ⊎ ((recordIn m ≡ 128) ⊎ (recordIn m ≡ 129))
 
--- 122 and 123 have first and last object in octets 6 and 7, and first and last label behind them; 102 and 186 have two labels directly behind the header
+-- Octets counted from 0, 122 and 123 have first and last object in octets 6 and 7, and first and last label behind them; 102 and 186 have two labels directly behind the header
 abbrev pub AsksReadings : List ℕ → Type 0
 AsksReadings m = (typeIn m ≡ 122) ⊎ (typeIn m ≡ 123)
 
@@ -104,9 +104,9 @@ module _ (session : Session) (image clock m : List ℕ) where
   Holds UnknownPoint = howMany (isPoint (pointIn m)) (recordsOf image) ≡ 0
   -- "session of another point and type not 183, 14"
   Holds OtherSession = ((session ≡ Closed → ⊥) × (session ≡ Open (record { 0 = pointIn m }) → ⊥)) × (typeIn m ≡ 183 → ⊥)
-  -- "structure octet, octets or cause not as listed, 14": the type's row lists another
+  -- "structure octet, octets or cause not as listed, 14": no row lists the type with these
   Holds Shape = Some (λ (w : Row). TypeAs m w × ShapeAs m w) table → ⊥
-  -- "record address, 15": not as listed
+  -- "record address, 15": no row lists the type with it
   Holds Address = Some (λ (w : Row). TypeAs m w × RecordAs m (w .addresses)) table → ⊥
   -- "122, 123: .. 17"; "A label not valid, first after last, or no reading chosen, 18"
   Holds Objects = AsksReadings m × ObjectsOut (getD m 6 0) (getD m 7 0)
