@@ -1,8 +1,10 @@
--- The cases of #105 are answered as they are written, and just the rules that they list hold.
+-- The cases of #105 are answered as they are written, and just the rules that they list hold; the neighbours of no case never hold together.
 -- Computed: the tests of the card's definition over all rules and cases; and each test tells whether its rule holds. Assumes nothing.
 use mathlib.Core.Bool.{Bool, true}
 use mathlib.Core.List.{List, [], _∷_, _++_, map}
+use mathlib.Core.Logic.{_⊎_, inl, inr}
 use mathlib.Core.Path.{_≡_, refl, ap}
+use native.Mathlib.Omega.{arith}
 use lib.ListN.{getD, drop}
 use Rattle.history.specs.History.{Each}
 use Rattle.message.specs.Requests.{requestOf}
@@ -14,7 +16,7 @@ use Rattle.why.specs.Asking.{whyOf}
 use Rattle.why.proofs.Naming.{everyRule, for-each}
 use Rattle.why.proofs.Telling.{by-same}
 use Rattle.why.proofs.Stated.{rule-told}
-use Rattle.tender.specs.WhyCases.{Case, alone, neighbours, CasesAnswered, EdgesAnswered, isIn, HoldsAsListed, HoldingSo}
+use Rattle.tender.specs.WhyCases.{Case, alone, neighbours, CasesAnswered, EdgesAnswered, isIn, HoldsAsListed, HoldingSo, OfDifferentTypes}
 use Rattle.tender.proofs.Worked.{everything}
 
 pub cases-answered : CasesAnswered
@@ -61,3 +63,17 @@ pub holding-so : HoldingSo
 holding-so =
     each-both one-case (alone ++ neighbours) (each-same (λ (c : Case). soundImage (c .image)) (λ c. true) (alone ++ neighbours) all-sound)
     (each-same tested listedIn (alone ++ neighbours) all-tested)
+
+-- one type is not another
+pub of-different-types : OfDifferentTypes
+of-different-types session image clock m =
+    record {
+      readings-events = λ r e. one-of (r .0) (λ a. omega (arith, a, e .0)) (λ a. omega (arith, a, e .0));
+      events-clock = λ e c. omega (arith, e .0, c .0);
+      clock-dates = λ c d. one-of (d .0) (λ a. omega (arith, a, c .0)) (λ a. omega (arith, a, c .0));
+      time-password = λ t p. one-of t (λ a. omega (arith, a .0, p .0)) (λ a. omega (arith, a .0, p .0));
+    }
+  where
+    one-of : {P Q R : Type 0} → P ⊎ Q → (P → R) → (Q → R) → R
+    one-of (inl p) f g = f p
+    one-of (inr q) f g = g q

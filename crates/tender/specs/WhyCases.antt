@@ -111,7 +111,7 @@ alone =
     ∷ (message 100 0 5 1 0 [] asked at 1 of withRecords then [])
     ∷ []
 
--- the neighbours that one message can break together; the others are of different types
+-- the neighbours that one message can break together
 abbrev pub neighbours : List Case
 neighbours =
     (message 101 0 133 1 0 [] asked at 1 of withRecords then Marked ∷ UnknownType ∷ Shape ∷ Address ∷ [])
@@ -167,3 +167,13 @@ HoldsAsListed c =
 
 abbrev pub HoldingSo : Type 0
 HoldingSo = Each HoldsAsListed (alone ++ neighbours)
+
+-- the neighbours that stand in no case are of different types: no message breaks both
+pub record NeverBoth (session : Session) (image clock m : List ℕ) : Type 0 where
+  pub readings-events : Holds session image clock m NoReading → Holds session image clock m EventLabel → ⊥
+  pub events-clock : Holds session image clock m NoEvent → Holds session image clock m ClockUnset → ⊥
+  pub clock-dates : Holds session image clock m ClockUnset → Holds session image clock m NoDates → ⊥
+  pub time-password : Holds session image clock m TimeLabel → Holds session image clock m WrongPassword → ⊥
+
+abbrev pub OfDifferentTypes : Type 0
+OfDifferentTypes = (session : Session) (image clock m : List ℕ) → NeverBoth session image clock m
