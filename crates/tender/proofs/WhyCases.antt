@@ -12,11 +12,12 @@ use Rattle.image.specs.Image.{soundImage}
 use Rattle.rules.specs.declared.Rule.{Rule}
 use Rattle.rules.specs.declared.Rule.the-variants.{Accepted}
 use Rattle.rules.proofs.Decided.{applies, allRules}
+use Rattle.data.specs.Messages.{identityReply}
 use Rattle.why.specs.Asking.{whyOf}
 use Rattle.why.proofs.Naming.{everyRule, for-each}
 use Rattle.why.proofs.Telling.{by-same}
 use Rattle.why.proofs.Stated.{rule-told}
-use Rattle.tender.specs.WhyCases.{Case, alone, neighbours, CasesAnswered, EdgesAnswered, isIn, HoldsAsListed, HoldingSo, OfDifferentTypes}
+use Rattle.tender.specs.WhyCases.{Case, alone, neighbours, CasesAnswered, EdgesAnswered, CausesCollected, isIn, HoldsAsListed, HoldingSo, OfDifferentTypes}
 use Rattle.tender.proofs.Worked.{everything}
 
 pub cases-answered : CasesAnswered
@@ -26,6 +27,10 @@ cases-answered = refl
 pub edges-answered : EdgesAnswered
 unfolding everything whyOf
 edges-answered = refl
+
+pub causes-collected : CausesCollected
+unfolding everything identityReply
+causes-collected = refl
 
 -- what is the same over a list is so of each element
 each-same : {A B : Type 0} (f g : A → B) (xs : List A) → map f xs ≡ map g xs → Each (λ x. f x ≡ g x) xs

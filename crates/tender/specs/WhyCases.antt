@@ -1,12 +1,14 @@
 -- Messages and the rules that hold of them: each rule alone, or with those that it brings along, and beside its neighbour where one message can break both. The first is named. So no
 -- rule is dead, and none hides another; and both sides of the two refusals. Assumes nothing.
-use Prim.Native.Nat.{ℕ}
+use Prim.Native.Nat.{ℕ, _+_}
 use mathlib.Core.Bool.{Bool, true, false, _||_}
 use mathlib.Core.List.{List, [], _∷_, _++_, map}
 use mathlib.Core.Path.{_≡_}
 use lib.Dec.{eqb}
-use lib.ListN.{replicate}
+use lib.ListN.{getD, replicate}
 use Rattle.history.specs.History.{Each}
+use Rattle.octets.specs.declared.Kept.{Kept}
+use Rattle.octets.specs.Keeping.{octetsOf, keptOf}
 use Rattle.rules.specs.declared.Session.{Session}
 use Rattle.rules.specs.declared.Session.the-variants.{Closed, Open}
 use Rattle.rules.specs.declared.Rule.{Rule}
@@ -16,6 +18,7 @@ use Rattle.why.specs.declared.Why.the-variants.{ImageUnsound, MessageLength, Na
 use Rattle.why.specs.Naming.{placeOf}
 use Rattle.why.specs.Asking.{whyOf}
 use Rattle.why.specs.Stated.{Holds}
+use Rattle.tender.specs.Rules.{collectedAfter}
 
 -- a message, where it is asked, and all rules that hold of it
 pub record Case : Type 0 where
@@ -154,6 +157,18 @@ CasesAnswered = map answerTo (alone ++ neighbours) ≡ map (λ c. firstHolding (
 
 abbrev pub EdgesAnswered : Type 0
 EdgesAnswered = map (λ e. whyOf (at 1) (e .image) right (e .message)) edges ≡ map (λ e. e .answer) edges
+
+-- and the centre collects the paper's causes: of each rule's message, carried out, the cause octet of the first reply. T of the first is kept, 128; P/N 1 is 64; the last gets its data, cause 5
+abbrev pub causeOctets : List ℕ
+causeOctets =
+    (128 + 14) ∷ 14 ∷ 14 ∷ 16 ∷ 14 ∷ 14 ∷ 15 ∷ 17 ∷ 18 ∷ 18 ∷ 18 ∷ 18 ∷ 18 ∷ 13 ∷ 13 ∷ 14 ∷ (64 + 7) ∷ (64 + 7) ∷ 5 ∷ []
+
+abbrev pub firstCause : List Kept → ℕ
+firstCause [] = 0
+firstCause (reply ∷ rest) = getD (octetsOf reply) 2 0
+
+abbrev pub CausesCollected : Type 0
+CausesCollected = map (λ (c : Case). firstCause (collectedAfter (c .session) (c .image) (c .clock) (keptOf (c .message)) 1)) alone ≡ causeOctets
 
 -- the rules that hold are these and no other, as document 01 words them
 abbrev pub isIn : Rule → List Rule → Bool
