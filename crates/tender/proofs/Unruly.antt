@@ -24,7 +24,7 @@ use Rattle.collector.specs.Collecting.{emptied}
 use Rattle.card.specs.Examining.{examined}
 use Rattle.card.proofs.Examining.{as-heard}
 use Rattle.rules.specs.declared.Session.the-variants.{Open}
-use Rattle.rules.specs.declared.Rule.the-variants.{Address, Accepted}
+use Rattle.rules.specs.declared.Rule.the-variants.{Address, WrongPassword, Accepted}
 use Rattle.deeds.specs.declared.Waiting.the-variants.{Mirror}
 use Rattle.deeds.specs.declared.Pending.{Pending}
 use Rattle.deeds.specs.Deeds.{nothingPending}
@@ -35,8 +35,8 @@ use Rattle.why.specs.Asking.{whyOf}
 use Rattle.tender.specs.Card.{ours}
 use Rattle.tender.specs.Cases.{smallest, lent, password, collect}
 use Rattle.tender.specs.Rules.{Hears, ownAddress, linkWith, StatusKeeps, EqualRepeats, Afresh, repliesWait, NewData, NewCollection, Carries, by-187, Sessions}
-use Rattle.tender.specs.Unruly.{closingAtStatus, droppingAtNack, givingNothing, orderingAgain, stayingOpen, closingAtCollection, alwaysFourteen}
-use Rattle.tender.specs.Why.{Sent, RefusedAsNamed, AcceptedAsNamed}
+use Rattle.tender.specs.Unruly.{closingAtStatus, droppingAtNack, givingNothing, orderingAgain, stayingOpen, closingAtCollection, alwaysFourteen, openingAnyway}
+use Rattle.tender.specs.Why.{Sent, RefusedAsNamed, RefusedNotDone, AcceptedAsNamed}
 use Rattle.tender.specs.Wrong.{linkedBy}
 use Rattle.tender.proofs.Smallest.{fit}
 use Rattle.tender.proofs.Examples.{sessionNumber, orderNumber, asking}
@@ -152,6 +152,20 @@ gives-fourteen c =
     let m = c card lent (userOf card) 1 Address sent (λ e. absurd (omega (arith, ap placeOf e))) later refl lent (userOf later) 0 fresh in
     let cause = cause-there (m .message) (ownAddress lent) (lent .buffer) (omega (arith, m .mirrors .as-long)) in
     omega (arith, m .mirrors .its-cause, cause, ap (λ (l : List ℕ). getD l 9 0) (m .replies .stands))
+
+-- a 183 with a wrong password and FCB 1
+abbrev asksWrongly : List ℕ
+asksWrongly =
+    0x68 ∷ 0x0D ∷ 0x0D ∷ 0x68 ∷ 0x73 ∷ 0x01 ∷ 0x00 ∷ 0xB7 ∷ 0x01 ∷ 0x06 ∷ 0x01 ∷ 0x00 ∷ 0x00 ∷ 0x79 ∷ 0x56 ∷ 0x34 ∷ 0x12 ∷ 0x48 ∷ 0x16 ∷ []
+
+pub opens-anyway : RefusedNotDone openingAnyway → ⊥
+unfolding everything whyOf
+opens-anyway c =
+    let card = hearing asksWrongly 0 nothingPending in
+    let sent : Sent card lent (userOf card) 1 WrongPassword = record { named = refl; nothing-waits = refl; afresh = afresh card _ refl refl refl } in
+    let one : _≡_ {A = ℕ} 1 0 =
+    ap sessionNumber (c card lent (userOf card) 1 WrongPassword sent (λ e. absurd (omega (arith, ap placeOf e))) .shut-out refl) in
+    omega (arith, one)
 
 -- what is named accepted is not done
 pub keeps-open : AcceptedAsNamed stayingOpen → ⊥

@@ -11,7 +11,11 @@ use Rattle.octets.specs.declared.Kept.{Kept}
 use Rattle.octets.specs.Keeping.{octetsOf}
 use Rattle.octets.proofs.Choice.{either}
 use Rattle.history.specs.History.{Each}
+use Rattle.message.specs.declared.Deed.{Deed}
+use Rattle.message.specs.declared.Deed.the-variants.{Refused}
 use Rattle.message.specs.declared.Request.{Request}
+use Rattle.message.specs.declared.RowFound.{RowFound}
+use Rattle.message.specs.declared.RowFound.the-variants as row
 use Rattle.message.specs.Headers.{tOf, pnOf, causeOf}
 use Rattle.message.specs.Mirror.{pnBit, mirror, mirrorOf}
 use Rattle.message.specs.Table.{table, rowIn}
@@ -20,10 +24,10 @@ use Rattle.message.proofs.Mirror.{mirror-length, mirror-elsewhere, mirror-cause
 use Rattle.rules.specs.declared.Session.{Session}
 use Rattle.rules.specs.declared.Session.the-variants.{Closed, Open}
 use Rattle.rules.specs.declared.Rule.{Rule}
-use Rattle.rules.specs.declared.Rule.the-variants.{Accepted}
+use Rattle.rules.specs.declared.Rule.the-variants.{WrongPassword, Accepted}
 use Rattle.rules.specs.Rules.{causeBy, pnBy}
 use Rattle.rules.specs.Decide.{decide}
-use Rattle.rules.proofs.Rules.{cause-small}
+use Rattle.rules.proofs.Rules.{Ruled, accepts, shuts-out, wrong-time, refuses, ruled, cause-small}
 use Rattle.deeds.specs.declared.Waiting.{Waiting}
 use Rattle.deeds.specs.declared.Order.{Order}
 use Rattle.deeds.specs.declared.Order.the-variants.{NoOrder, SetClock, SetDates}
@@ -36,7 +40,7 @@ use Rattle.card.specs.State.{leftWith}
 use Rattle.why.proofs.Asking.{NamedBy, named-only}
 use Rattle.tender.specs.Card.{Loan, GapCall, noTime, ourGap}
 use Rattle.tender.specs.Rules.{ack, Answers, linkWith, repliesWait, nackDue, carriedAt, requestIn, pointIn, Rules}
-use Rattle.tender.specs.Why.{Sent, MirrorOf, RefusedAsNamed, DoneRow, doneRow, doneRows, DoneAs, AcceptedAsNamed}
+use Rattle.tender.specs.Why.{Sent, MirrorOf, RefusedAsNamed, RefusedNotDone, DoneRow, doneRow, doneRows, DoneAs, AcceptedAsNamed}
 use Rattle.tender.proofs.RulesWaiting.{_and_, mirror-next, waiting-replies}
 use Rattle.tender.proofs.Rules as ours
 
@@ -60,6 +64,27 @@ pn-small rule = by-test (pnBy rule)
     by-test : (t : Bool) → pnBit t < 2
     by-test true = omega arith
     by-test false = omega arith
+
+-- what a refusal does: no order; and it leaves the session, unless it is by a wrong password
+module _ (session : Session) (clock : List ℕ) (r : Request) where
+  abbrev Quiet : Rule → Deed → Type 0
+  Quiet rule deed =
+      let done = doneBy rule session clock r deed in
+      (done .order ≡ NoOrder) × ((done .time ≡ noTime) × ((rule ≡ WrongPassword → ⊥) → done .session ≡ session))
+
+  quiet-ruled : {its : Deed} {rule : Rule} {said : ℕ × Bool × Deed} → Ruled its rule said → (rule ≡ Accepted → ⊥) → Quiet rule (said .2)
+  quiet-ruled accepts other = absurd (other refl)
+  quiet-ruled shuts-out other = (refl, (refl, λ not-it. absurd (not-it refl)))
+  quiet-ruled wrong-time other = (refl, (refl, λ not-it. refl))
+  quiet-ruled (refuses small) other = (refl, (refl, λ not-it. refl))
+
+  quiet : (rule : Rule) (found : RowFound) → (rule ≡ Accepted → ⊥) → Quiet rule (deedOf rule found)
+  quiet rule (row.Is w) other = quiet-ruled (ruled rule (w .deed)) other
+  quiet rule row.Nothing other = quiet-ruled (ruled rule Refused) other
+
+  shut : (found : RowFound) → doneBy WrongPassword session clock r (deedOf WrongPassword found) .session ≡ Closed
+  shut (row.Is w) = refl
+  shut row.Nothing = refl
 
 -- any card that meets the rules
 module _ (gap : GapCall) (meets : Rules gap) where
@@ -99,6 +124,23 @@ module _ (gap : GapCall) (meets : Rules gap) where
         mirrors =
             rw (message, mirror-octets user (pnBit (pnBy rule)) (causeBy rule) (omega (arith, long s)))
             (mirror-of (octetsOf user) (causeBy rule) (pnBit (pnBy rule)) (omega (arith, by-name s .at-least-6)) (omega (arith, cause-small rule)) (pn-small rule));
+      }
+
+  pub refused-not-done : RefusedNotDone gap
+  unfolding carriedOut
+  refused-not-done card loan user bit rule s other =
+      let session = card .link .session in
+      let r = requestIn user in
+      let found = rowIn table (r .header .«type_id») in
+      let so = quiet session (loan .clock) r rule found other in
+      let left = ap (λ (l : Link). l .session) (link-after s) ∙ ap (λ (its : Rule). doneBy its session (loan .clock) r (deedOf its found) .session) (by-name s .decided) in
+      record {
+        acked = carried s .replies;
+        no-order = carried s .orders ∙ ap (λ (its : Rule). doneBy its session (loan .clock) r (deedOf its found) .order) (by-name s .decided) ∙ so .0;
+        no-time = meets .takes-data card loan user bit (s .afresh) .times (taken s)
+            ∙ ap (λ (its : Rule). doneBy its session (loan .clock) r (deedOf its found) .time) (by-name s .decided) ∙ so .1 .0;
+        session-kept = λ not-it. left ∙ so .1 .1 not-it;
+        shut-out = λ e. left ∙ ap (λ (its : Rule). doneBy its session (loan .clock) r (deedOf its found) .session) e ∙ shut session (loan .clock) r found;
       }
 
   -- an accepted message does what its row says
@@ -154,6 +196,9 @@ module _ (gap : GapCall) (meets : Rules gap) where
       }
 
 -- ours
+pub our-not-done : RefusedNotDone ourGap
+our-not-done = refused-not-done ourGap ours.rules
+
 pub our-refused : RefusedAsNamed ourGap
 our-refused = refused-as-named ourGap ours.rules
 

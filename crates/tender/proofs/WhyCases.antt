@@ -2,7 +2,6 @@
 -- Computed: the tests of the card's definition over all rules and cases; and each test tells whether its rule holds. Assumes nothing.
 use mathlib.Core.Bool.{Bool, true}
 use mathlib.Core.List.{List, [], _∷_, _++_, map}
-use mathlib.Core.Logic.{_⊎_, inl, inr}
 use mathlib.Core.Path.{_≡_, refl, ap}
 use native.Mathlib.Omega.{arith}
 use lib.ListN.{getD, drop}
@@ -15,7 +14,7 @@ use Rattle.rules.proofs.Decided.{applies, allRules}
 use Rattle.data.specs.Messages.{identityReply}
 use Rattle.why.specs.Asking.{whyOf}
 use Rattle.why.proofs.Naming.{everyRule, for-each}
-use Rattle.why.proofs.Telling.{by-same}
+use Rattle.why.proofs.Telling.{by-same, either-of}
 use Rattle.why.proofs.Stated.{rule-told}
 use Rattle.tender.specs.WhyCases.{Case, alone, neighbours, CasesAnswered, EdgesAnswered, CausesCollected, isIn, HoldsAsListed, HoldingSo, OfDifferentTypes}
 use Rattle.tender.proofs.Worked.{everything}
@@ -73,12 +72,8 @@ holding-so =
 pub of-different-types : OfDifferentTypes
 of-different-types session image clock m =
     record {
-      readings-events = λ r e. one-of (r .0) (λ a. omega (arith, a, e .0)) (λ a. omega (arith, a, e .0));
+      readings-events = λ r e. either-of (λ a. omega (arith, a, e .0)) (λ a. omega (arith, a, e .0)) (r .0);
       events-clock = λ e c. omega (arith, e .0, c .0);
-      clock-dates = λ c d. one-of (d .0) (λ a. omega (arith, a, c .0)) (λ a. omega (arith, a, c .0));
-      time-password = λ t p. one-of t (λ a. omega (arith, a .0, p .0)) (λ a. omega (arith, a .0, p .0));
+      clock-dates = λ c d. either-of (λ a. omega (arith, a, c .0)) (λ a. omega (arith, a, c .0)) (d .0);
+      time-password = λ t p. either-of (λ a. omega (arith, a .0, p .0)) (λ a. omega (arith, a .0, p .0)) t;
     }
-  where
-    one-of : {P Q R : Type 0} → P ⊎ Q → (P → R) → (Q → R) → R
-    one-of (inl p) f g = f p
-    one-of (inr q) f g = g q

@@ -7,7 +7,7 @@ use lib.ListN.{getD}
 use Rattle.octets.specs.Choice.{if_then_else_}
 use Rattle.frame.specs.Writing.{replyOctets}
 use Rattle.rules.specs.declared.Session.{Session}
-use Rattle.rules.specs.declared.Session.the-variants.{Closed}
+use Rattle.rules.specs.declared.Session.the-variants.{Closed, Open}
 use Rattle.deeds.specs.declared.Order.the-variants.{SetClock}
 use Rattle.deeds.specs.declared.Waiting.{Waiting}
 use Rattle.deeds.specs.declared.Waiting.the-variants.{NoReply, Mirror, Denied, Begin, More, Type71, Type72, Type131}
@@ -84,3 +84,7 @@ alwaysFourteen =
     gapLeaving (λ card loan seen left.
     let pending = left .link .pending in
     linkedBy (awaiting (record { waiting = fourteen (pending .waiting); request = pending .request; clock = pending .clock }) (left .link)) left)
+
+-- every 183 opens the session of point 1, also one that is refused
+abbrev pub openingAnyway : GapCall
+openingAnyway = gapLeaving (λ card loan seen left. if eqb (octetAt 7 card) 183 then withSession (Open (record { 0 = 1 })) left else left)

@@ -1,7 +1,7 @@
 -- Document 02, #105, "Why did the meter say no?": "the card's cause must be that rule's. An accepted message is named so." As statements about any card's gap: a message
 -- is asked about, sent in a fresh data frame while nothing waits, and then the next reply is collected. That the named rule holds and no earlier one does is stated in `why/specs/Stated`.
 -- They shut out a card that gives another rule's cause, or P/N 1 for a refusal by cause; one that sends the mirror of another message, or another reply before it; one that refuses what is
--- named accepted, or accepts what is named refused; one that opens the session of another point, or gives another order. Assumes nothing.
+-- named accepted, or does what is named refused; one that opens the session of another point, or gives another order. Assumes nothing.
 use Prim.Native.Nat.{ℕ, _≤_}
 use mathlib.Core.Bool.{false}
 use mathlib.Core.List.{List, [], _∷_, _++_}
@@ -16,7 +16,7 @@ use Rattle.message.specs.Mirror.{pnBit}
 use Rattle.rules.specs.declared.Session.{Session}
 use Rattle.rules.specs.declared.Session.the-variants.{Closed, Open}
 use Rattle.rules.specs.declared.Rule.{Rule}
-use Rattle.rules.specs.declared.Rule.the-variants.{Accepted}
+use Rattle.rules.specs.declared.Rule.the-variants.{WrongPassword, Accepted}
 use Rattle.rules.specs.Rules.{causeBy, pnBy}
 use Rattle.deeds.specs.declared.Order.{Order}
 use Rattle.deeds.specs.declared.Order.the-variants.{NoOrder, SetClock, SetDates}
@@ -55,6 +55,19 @@ RefusedAsNamed gap =
     (card : Card) (loan : Loan) (user : Kept) (bit : ℕ) (rule : Rule) → Sent card loan user bit rule → (rule ≡ Accepted → ⊥)
     → (later : Card) → later .link ≡ gap card loan .state .link → (its-loan : Loan) (nothing : Kept) (next : ℕ) → Afresh later its-loan (Collection next) nothing next
     → Mirrored its-loan (octetsOf user) (causeBy rule) (pnBit (pnBy rule)) (gap later its-loan .answer)
+
+-- and before that, with the data frame, it gets the ACK, gives no order and leaves the session as it was; a wrong password closes it
+pub record NotDone (card : Card) (loan : Loan) (rule : Rule) (x : Stepped Card Seen) : Type 0 where
+  pub acked : Replies loan (ack loan) (x .answer)
+  pub no-order : x .answer .order ≡ NoOrder
+  pub no-time : x .answer .time ≡ noTime
+  pub session-kept : (rule ≡ WrongPassword → ⊥) → x .state .link .session ≡ card .link .session
+  pub shut-out : rule ≡ WrongPassword → x .state .link .session ≡ Closed
+
+abbrev pub RefusedNotDone : GapCall → Type 0
+RefusedNotDone gap =
+    (card : Card) (loan : Loan) (user : Kept) (bit : ℕ) (rule : Rule) → Sent card loan user bit rule → (rule ≡ Accepted → ⊥)
+    → NotDone card loan rule (gap card loan)
 
 -- What a message of each type does, beside what waits: the session after it, the order and its time octets
 pub record DoneRow : Type 0 where

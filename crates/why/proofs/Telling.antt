@@ -43,7 +43,7 @@ and-then false tells more = record { yes = λ e. absurd (false≢true e); only =
 pub and : {H K : Type 0} (t : Bool) {u : Bool} → Tells H t → Tells K u → Tells (H × K) (t && u)
 and t tells more = and-then t tells (λ e. more)
 
-either-of : {H K L : Type 0} → (H → L) → (K → L) → H ⊎ K → L
+pub either-of : {H K L : Type 0} → (H → L) → (K → L) → H ⊎ K → L
 either-of f g (inl h) = f h
 either-of f g (inr k) = g k
 
