@@ -1,14 +1,15 @@
+#![tactic(auto)]
 // The two addresses. Behind a concentrator they differ, so neither is ever used where the other is meant:
 // they are separate types, and no function turns one into the other.
 ghost use Rattle.std.specs.Prelude.{◌≡◌};
 ghost use Rattle.address.specs.Address.{same_link, same_point};
 
 // The address of the card on its line.
-#[derive(Drop)]
+#[derive(Clone, Copy)]
 pub struct LinkAddress(pub u16);
 
 // The address of a metering point.
-#[derive(Drop)]
+#[derive(Clone, Copy)]
 pub struct PointAddress(pub u16);
 
 impl LinkAddress {

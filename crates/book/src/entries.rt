@@ -3,14 +3,14 @@ use crate::lines::Sought;
 use crate::{lines, utf8};
 
 // A code as one number, SPA before SPQ, and where its name begins in the line.
-#[derive(Drop)]
+#[derive(Clone, Copy)]
 pub struct Entry {
     pub code: usize,
     pub at: usize,
 }
 
 // What is wrong with a line by itself; of a name that is too long, how many octets it has.
-#[derive(Drop)]
+#[derive(Clone, Copy)]
 pub enum Fault {
     NotUtf8,
     Spa,
@@ -19,7 +19,7 @@ pub enum Fault {
     LongName(usize),
 }
 
-#[derive(Drop)]
+#[derive(Clone, Copy)]
 pub enum Line {
     PassedOver,
     Entry(Entry),

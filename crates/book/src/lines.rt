@@ -2,7 +2,7 @@
 use std::num::wrapping_add_usize;
 
 // What is looked for in a text.
-#[derive(Drop)]
+#[derive(Clone, Copy)]
 pub enum Sought {
     Newline,
     Blank,

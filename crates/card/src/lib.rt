@@ -40,7 +40,7 @@ pub struct Gone {
 }
 
 // What examining a run finds: why it is no sound frame, that it is not for this card, or what it asks for.
-#[derive(Drop)]
+#[derive(Clone, Copy)]
 pub enum Finding {
     Faulty(Fault),
     OtherLink,

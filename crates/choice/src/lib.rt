@@ -9,7 +9,7 @@ use address::PointAddress;
 use fields::Key;
 
 // The records of a point and record address with an instant from first to last, both in.
-#[derive(Drop)]
+#[derive(Clone, Copy)]
 pub struct Span {
     pub point: PointAddress,
     pub record_address: u8,
@@ -18,13 +18,13 @@ pub struct Span {
 }
 
 // What is looked for: readings or events of a span.
-#[derive(Drop)]
+#[derive(Clone, Copy)]
 pub enum Query {
     Reading(Span),
     Event(Span),
 }
 
-#[derive(Drop)]
+#[derive(Clone, Copy)]
 pub enum Found {
     At(usize),
     Nothing,

@@ -28,7 +28,7 @@ use Rattle.collector.proofs.Collector.with.Reads as collector_with
 use Rattle.collector.proofs.Collector.with_character.Reads as with_character
 use Rattle.collector.proofs.Collector.with_all.Reads as collector_with_all
 use Rattle.collector.proofs.is_damaged.Reads as is_damaged
-use Rattle.collector.proofs.one_more_call.Reads as one_more_call
+use Rattle.collector.proofs.one_more.Reads as one_more_call
 
 module _ (κs : Lfts 0) where
   -- a collector that is not empty, whatever stands in it

@@ -25,7 +25,7 @@ pub enum Waiting {
     Type131,
 }
 
-#[derive(Drop)]
+#[derive(Clone, Copy)]
 pub enum Order {
     NoOrder,
     SetClock,

@@ -260,7 +260,7 @@ fn tell(word: Word, given: &[u8], shelf: &[u8]) {
 }
 
 // What a request is about.
-#[derive(Drop)]
+#[derive(Clone, Copy)]
 enum About {
     Octets,
     Lent,

@@ -59,7 +59,7 @@ pub(crate) fn user_data(space: &mut [u8], last: u8, image: &[u8], message: &[u8]
 }
 
 // The rule that a message met, or that no message is known.
-#[derive(Drop)]
+#[derive(Clone, Copy)]
 pub enum Met {
     By(Rule),
     Unknown,

@@ -35,7 +35,7 @@ fn place(rule: ImageRule) -> u8
 }
 
 // Records of one kind, point and record address that stand together: how many, the first label and the last.
-#[derive(Drop)]
+#[derive(Clone, Copy)]
 struct Group {
     key: Key,
     many: u64,

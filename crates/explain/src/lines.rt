@@ -1,7 +1,7 @@
 // Lines of text: where one ends, what stands in it before its comment, and whether it is a word in any case of letters.
 
 // What is looked for in a text.
-#[derive(Drop)]
+#[derive(Clone, Copy)]
 pub enum Sought {
     Newline,
     Comment,

@@ -5,7 +5,7 @@ use crate::lines::Sought;
 use crate::{lines, words};
 use profile::Profile;
 
-#[derive(Drop)]
+#[derive(Clone, Copy)]
 pub enum Word {
     Label,
     Compare,
@@ -32,7 +32,7 @@ pub enum Word {
 }
 
 // What is expected of a request, where it is not as it should be.
-#[derive(Drop)]
+#[derive(Clone, Copy)]
 pub enum Matter {
     Word,
     Figure,
@@ -57,7 +57,7 @@ pub enum Matter {
 
 // What stands behind a word, as far as it is read: how many octets or numbers; the number; the figure that is read last, where a pair or a number
 // may go on with the next, and else `NONE`; what is the matter, and in which column, 0 where in none.
-#[derive(Drop)]
+#[derive(Clone, Copy)]
 pub struct Argument {
     pub count: usize,
     pub number: usize,
@@ -67,7 +67,7 @@ pub struct Argument {
 }
 
 // What is to be done when a line is read.
-#[derive(Drop)]
+#[derive(Clone, Copy)]
 pub enum Step {
     PassOn,
     Wait,
@@ -77,7 +77,7 @@ pub enum Step {
 }
 
 // A request as far as its lines are read: the last one's number, whether another follows, and what is to be done.
-#[derive(Drop)]
+#[derive(Clone, Copy)]
 pub struct Request {
     pub word: Word,
     pub argument: Argument,

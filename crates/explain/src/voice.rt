@@ -50,7 +50,7 @@ pub(crate) fn pairs(some: &[u8]) {
 
 // What an octet of a phrase stands for: `%` for a number, `&` and `$` for one with two and three figures at least, `_` for one that is passed over, `~`
 // for an octet in hex, `*` for a word, `^` for a semicolon, which would end a word of a table; all else for itself.
-#[derive(Drop)]
+#[derive(Clone, Copy)]
 enum Mark {
     Figures(usize),
     Unsaid,

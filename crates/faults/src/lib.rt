@@ -15,7 +15,7 @@ use fields::{DatesFound, Key, PointFound};
 use label::{DateTime, LabelA, LabelB};
 
 // The part of a label that is wrong, in the order in which they are looked at; those of a label b's front come before the rest.
-#[derive(Drop)]
+#[derive(Clone, Copy)]
 pub enum LabelFault {
     Iv,
     Tis,
@@ -33,7 +33,7 @@ pub enum LabelFault {
 }
 
 // The rule that is broken: of the whole image; of a record, given those before it; of octets that are no whole record; of the records' end.
-#[derive(Drop)]
+#[derive(Clone, Copy)]
 pub enum ImageRule {
     TooLong,
     Version,
@@ -58,7 +58,7 @@ pub enum ImageRule {
 }
 
 // The record at fault: its number from 1 and the place of its first octet. Both are 0 for the image as a whole.
-#[derive(Drop)]
+#[derive(Clone, Copy)]
 pub struct ImageFault {
     pub rule: ImageRule,
     pub number: usize,
@@ -257,7 +257,7 @@ fn point_rule(kind: u8, points: usize, known: bool) -> ImageRule
 }
 
 // Where a walk over the records stands: how many are passed, how many of them are points, where the last of them stands, and the place behind it.
-#[derive(Drop)]
+#[derive(Clone, Copy)]
 struct Walk {
     passed: usize,
     points: usize,

@@ -1,3 +1,4 @@
+#![tactic(auto)]
 // The single parts of an image and of its records. Every call serves any octets and any place.
 ghost use Rattle.std.specs.Prelude.{◌≡◌, ◌+◌, ◌≤◌, length};
 ghost use Rattle.fields.specs.Parts.{number_at, point_of, record_address};
@@ -10,7 +11,7 @@ use label::{LabelA, LabelB};
 
 // What a record is chosen and ordered by. A point has no record address, and of the labels only those of readings and events
 // count: what a record of its kind does not have is 0. A reading's label stands at the start of its minute.
-#[derive(Drop)]
+#[derive(Clone, Copy)]
 pub struct Key {
     pub kind: u8,
     pub point: PointAddress,
@@ -19,7 +20,7 @@ pub struct Key {
 }
 
 // The first record of an image.
-#[derive(Drop)]
+#[derive(Clone, Copy)]
 pub struct Identity {
     pub link: LinkAddress,
     pub date: u8,
@@ -27,59 +28,59 @@ pub struct Identity {
     pub product: u32,
 }
 
-#[derive(Drop)]
+#[derive(Clone, Copy)]
 pub enum IdentityFound {
     Is(Identity),
     Nothing,
 }
 
 // A point's number among the points, from 1, and its password.
-#[derive(Drop)]
+#[derive(Clone, Copy)]
 pub struct Point {
     pub number: usize,
     pub password: u32,
 }
 
-#[derive(Drop)]
+#[derive(Clone, Copy)]
 pub enum PointFound {
     Is(Point),
     Nothing,
 }
 
 // The two switch dates.
-#[derive(Drop)]
+#[derive(Clone, Copy)]
 pub struct Dates {
     pub first: LabelA,
     pub second: LabelA,
 }
 
-#[derive(Drop)]
+#[derive(Clone, Copy)]
 pub enum DatesFound {
     Is(Dates),
     Nothing,
 }
 
 // One object of a reading.
-#[derive(Drop)]
+#[derive(Clone, Copy)]
 pub struct Value {
     pub value: i32,
     pub quality: u8,
 }
 
-#[derive(Drop)]
+#[derive(Clone, Copy)]
 pub enum ValueFound {
     Is(Value),
     Nothing,
 }
 
-#[derive(Drop)]
+#[derive(Clone, Copy)]
 pub struct Event {
     pub spa: u8,
     pub spq: u8,
     pub label: LabelB,
 }
 
-#[derive(Drop)]
+#[derive(Clone, Copy)]
 pub enum EventFound {
     Is(Event),
     Nothing,

@@ -1,3 +1,4 @@
+#![tactic(auto)]
 // Frames of FT 1.2: a run is judged, its control field read, a reply written.
 ghost use Rattle.std.specs.Prelude.{◌≡◌, ◌+◌, ◌≤◌, [], ◌∷◌, ◌++◌, length, take, slice_index};
 ghost use Rattle.frame.specs.Family.{sapr};
@@ -14,7 +15,7 @@ use octets::Kept;
 
 // Why a run is no sound frame: empty, over 261 octets, a wrong parity bit, not the form of a frame, a wrong checksum. Octets have no parity bit: `judge`
 // finds none wrong.
-#[derive(Drop)]
+#[derive(Clone, Copy)]
 pub enum Fault {
     Empty,
     Long,
@@ -39,14 +40,14 @@ pub enum Judged {
     },
 }
 
-#[derive(Drop)]
+#[derive(Clone, Copy)]
 pub enum Form {
     Fixed,
     Variable,
 }
 
 // What the centre asks for, with the FCB where it counts.
-#[derive(Drop)]
+#[derive(Clone, Copy)]
 pub enum Service {
     Reset,
     UserData(u8),
@@ -55,14 +56,14 @@ pub enum Service {
 }
 
 // What a control field asks for: a service, or nothing that is offered.
-#[derive(Drop)]
+#[derive(Clone, Copy)]
 pub enum Asked {
     Is(Service),
     NotOffered,
 }
 
 // The control fields of replies: acknowledged, not acknowledged, data, nothing to give, the link's status.
-#[derive(Drop)]
+#[derive(Clone, Copy)]
 pub enum Control {
     Ack,
     Nack,
@@ -80,7 +81,7 @@ pub struct Reply {
 }
 
 // The buffer is under 261 octets; or so many octets are written.
-#[derive(Drop)]
+#[derive(Clone, Copy)]
 pub enum Written {
     Short,
     Octets(u16),

@@ -1,1 +1,2 @@
+#![tactic(auto)]
 // Histories of any machine on a line: definitions in specs/, theorems in proofs/, no code.

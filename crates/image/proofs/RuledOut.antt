@@ -26,7 +26,7 @@ use Rattle.image.proofs.Soundness.{rules, right_point, right_reading, right_even
 use Rattle.image.proofs.sound.Reads as sound
 use Rattle.image.proofs.is_reading_record.Reads as is_reading_record
 use Rattle.image.proofs.is_event_record.Reads as is_event_record
-use Rattle.image.proofs.in_order_call.Reads as in_order_call
+use Rattle.image.proofs.in_order.Reads as in_order_call
 
 -- to unfold one of these is to unfold what a sound image, and the labels in it, stand on
 the_image : Unit {0}

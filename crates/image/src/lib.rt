@@ -234,7 +234,7 @@ fn event_fits(image: &[u8], last: Key, minute: i64, key: Key, moment: Moment) ->
 
 // Where a walk over a run stands: whether it goes on, whether all that it passed fits, the place behind that, the last key and its
 // instant.
-#[derive(Drop)]
+#[derive(Clone, Copy)]
 struct Run {
     going: bool,
     fine: bool,

@@ -30,7 +30,7 @@ use Rattle.input.proofs.judge_head.Reads as judge_head
 use Rattle.input.proofs.run_size.Reads as run_size_call
 use Rattle.input.proofs.judge_run.Reads as judge_run
 use Rattle.input.proofs.call_size.Reads as call_size_call
-use Rattle.input.proofs.judge_call.Reads as judge_call
+use Rattle.input.proofs.judge.Reads as judge_call
 
 -- of four tests in a row the last holds where none before it decides
 whole_last : (t u v w : Bool)

@@ -5,7 +5,7 @@ ghost use Rattle.input.specs.Input.{length_of2, length_of3, clock_at, head_size,
 use profile::Profile;
 
 // What stands before the runs: another version, input that is cut, an unsound image, or all in order.
-#[derive(Drop)]
+#[derive(Clone, Copy)]
 pub enum Head {
     Version,
     Cut,
@@ -14,7 +14,7 @@ pub enum Head {
 }
 
 // What follows: no more runs, one that is cut, or one that is whole.
-#[derive(Drop)]
+#[derive(Clone, Copy)]
 pub enum Run {
     End,
     Cut,
@@ -22,7 +22,7 @@ pub enum Run {
 }
 
 // A call of the driving program: none is left, one that is cut, one that is none, or one of the eight.
-#[derive(Drop)]
+#[derive(Clone, Copy)]
 pub enum Call {
     End,
     Cut,

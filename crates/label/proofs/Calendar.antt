@@ -2,7 +2,8 @@
 -- The rules by tests computed over all years and months, the order by recursion on the months and years between. Assumes nothing.
 use Prim.Native.Nat.{ℕ, zero, suc, ◌+◌, ◌-◌, ◌*◌, ◌/◌, ◌%◌, ◌≤◌, ◌<◌}
 use mathlib.Core.Bool.{Bool, true, false, ◌||◌}
-use mathlib.Core.Path.{◌≡◌, ◌≢◌, refl, ◌∙◌}
+use mathlib.Core.Path.{◌≡◌, refl, ◌∙◌}
+use Rattle.std.specs.Prelude.{◌≢◌}
 use native.Mathlib.Omega.{arith}
 use native.Mathlib.Nat.{le_of_suc-le-suc, not-suc-le-zero}
 use borrow.Author.Tests.{eqb-true, eqb-false, eq-eqb, ne_eqb, leb-true}
@@ -37,7 +38,7 @@ february_rule is_leap month e = rw (eq-eqb month 2 e)
 
 pub length_rule : (is_leap : Bool) (month : ℕ) → 1 ≤ month → month ≤ 12 → month ≢ 2 → month_length is_leap month ≡ 30 + (month + month / 8) % 2
 unfolding month_length
-length_rule is_leap month first last h = rw (ne_eqb month 2 h) ∙ by_tests (eqb month 4) (eqb month 6) (eqb month 9) (eqb month 11) refl refl refl refl
+length_rule is_leap month first last h = rw (ne_eqb month 2 h) (by_tests (eqb month 4) (eqb month 6) (eqb month 9) (eqb month 11) refl refl refl refl)
   where
     by_tests : (april june september november : Bool) → eqb month 4 ≡ april → eqb month 6 ≡ june → eqb month 9 ≡ september → eqb month 11 ≡ november
         → (if april || june || september || november then 30 else 31) ≡ 30 + (month + month / 8) % 2

@@ -1,3 +1,4 @@
+#![tactic(auto)]
 // Time labels a and b: read from octets and written as octets, what they say, whether they are valid, their instant and their order.
 ghost use Rattle.std.specs.Prelude.{◌≡◌, true, ◌+◌, ◌-◌, ◌/◌, ◌≤◌, ◌<◌, leb, eqb};
 ghost use Rattle.label.specs.Calendar.{leap, leap_day, month_length, days_to_year, days_of_months};
@@ -7,7 +8,7 @@ ghost use Rattle.label.specs.Standard.{standard_at, as_it_stands, hour_earlier, 
 ghost use Rattle.label.specs.Calls.{moment_of};
 
 // A date and time: the year's last two figures, 0 to 99 for 2000 to 2099. Any five numbers are a value; not every one is a real date.
-#[derive(Drop)]
+#[derive(Clone, Copy)]
 pub struct DateTime {
     pub year: u8,
     pub month: u8,
@@ -17,7 +18,7 @@ pub struct DateTime {
 }
 
 // A date and time in standard time. Its year is whole: a summer label in the first hour of 2000 lies in 1999.
-#[derive(Drop)]
+#[derive(Clone, Copy)]
 pub struct StandardTime {
     pub year: u16,
     pub month: u8,
@@ -27,7 +28,7 @@ pub struct StandardTime {
 }
 
 // Label a, its five octets as they stand on the wire, each named after what its low bits hold.
-#[derive(Drop)]
+#[derive(Clone, Copy)]
 pub struct LabelA {
     pub minute: u8,
     pub hour: u8,
@@ -37,7 +38,7 @@ pub struct LabelA {
 }
 
 // Label b: two octets of milliseconds and seconds, low octet first, and a label a.
-#[derive(Drop)]
+#[derive(Clone, Copy)]
 pub struct LabelB {
     pub low: u8,
     pub high: u8,
@@ -45,7 +46,7 @@ pub struct LabelB {
 }
 
 // Whether a label is valid, and its instant. A walk over records asks for both at once.
-#[derive(Drop)]
+#[derive(Clone, Copy)]
 pub struct Moment {
     pub valid: bool,
     pub minute: i64,

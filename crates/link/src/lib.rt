@@ -23,7 +23,7 @@ pub struct Link {
 }
 
 // What is sent: nothing, before the first reset; the remembered reply, be it new or not; the status, with the link address that it carries.
-#[derive(Drop)]
+#[derive(Clone, Copy)]
 pub enum Sends {
     NotReset,
     Remembered,

@@ -8,7 +8,7 @@ use stream::{Texts, Window};
 const MOST: usize = 1500000;
 
 // A call: none is left, one that is cut, one that is none, or one of the four.
-#[derive(Drop)]
+#[derive(Clone, Copy)]
 enum Call {
     End,
     Cut,
@@ -21,7 +21,7 @@ enum Call {
 
 // What is kept between two calls beside the spaces of the two books: how many octets of each count, what has been read of the calls to come, the lines
 // that wait; and whether another call may follow.
-#[derive(Drop)]
+#[derive(Clone, Copy)]
 struct Shelf {
     chosen: usize,
     italian: usize,

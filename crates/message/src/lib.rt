@@ -1,3 +1,4 @@
+#![tactic(auto)]
 // Messages: the header, a request read once, the table of requests, mirrors.
 ghost use Rattle.std.specs.Prelude.{◌%◌, ◌≤◌, ◌≡◌};
 ghost use Rattle.label.specs.Label.{label_a_at};
@@ -11,7 +12,7 @@ use label::{LabelA, LabelB};
 use octets::Kept;
 
 // What the first six octets of a message say.
-#[derive(Drop)]
+#[derive(Clone, Copy)]
 pub struct Header {
     pub type_id: u8,
     pub structure: u8,
@@ -21,14 +22,14 @@ pub struct Header {
 }
 
 // The objects of a reading that a request asks for, by their numbers: from the first to the last.
-#[derive(Drop)]
+#[derive(Clone, Copy)]
 pub struct ObjectRange {
     pub first: u8,
     pub last: u8,
 }
 
 // A request, read once from its octets. What is not there counts as 0.
-#[derive(Drop)]
+#[derive(Clone, Copy)]
 pub struct Request {
     pub header: Header,
     pub octets: usize,
@@ -40,7 +41,7 @@ pub struct Request {
 }
 
 // What a message does: nothing, since a rule refuses it; a wrong password closes the session; and the table's last column.
-#[derive(Drop)]
+#[derive(Clone, Copy)]
 pub enum Deed {
     Refused,
     ShutOut,
@@ -55,14 +56,14 @@ pub enum Deed {
 }
 
 // The record addresses of a request: one alone, or those of events.
-#[derive(Drop)]
+#[derive(Clone, Copy)]
 pub enum Addresses {
     Only(u8),
     Events,
 }
 
 // A request that is offered: its type, N, how many octets it has, its cause, its record addresses, what it does when it is accepted.
-#[derive(Drop)]
+#[derive(Clone, Copy)]
 pub struct Row {
     pub type_id: u8,
     pub count: u8,
@@ -72,7 +73,7 @@ pub struct Row {
     pub deed: Deed,
 }
 
-#[derive(Drop)]
+#[derive(Clone, Copy)]
 pub enum RowFound {
     Is(Row),
     Nothing,

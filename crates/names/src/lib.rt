@@ -1,3 +1,4 @@
+#![tactic(auto)]
 // Books of event names for the handheld: a book is checked, and the name of an event's code is handed back as a part of one of two lent books.
 ghost use Rattle.std.specs.Prelude.{◌≡◌, ◌+◌, ◌≤◌, length};
 ghost use Rattle.octets.specs.Choice.{if◌then◌else◌};
@@ -7,14 +8,14 @@ ghost use Rattle.names.specs.LookUp.{none, looked_up, name_shown, cut_out};
 ghost use Rattle.names.specs.working.Pass.{entry_at, kept, passed};
 
 // The code of an event: SPA and SPQ, the qualifier of seven bits.
-#[derive(Drop)]
+#[derive(Clone, Copy)]
 pub struct Code {
     pub spa: u8,
     pub spq: u8,
 }
 
 // What checking a book comes to: the refusal's number and the first faulty entry's, from 1; entry 0 with refusal 1.
-#[derive(Drop)]
+#[derive(Clone, Copy)]
 pub enum Checked {
     Sound,
     Refused(u8, usize),
@@ -22,7 +23,7 @@ pub enum Checked {
 
 // What is shown: nothing, since a book is refused, the chosen one (1) or the Italian one (2), with the refusal's number and the faulty entry's;
 // the name of an entry of the chosen book, or of the Italian one; no name.
-#[derive(Drop)]
+#[derive(Clone, Copy)]
 pub enum Shown {
     Refused(u8, u8, usize),
     Chosen(usize),
@@ -31,7 +32,7 @@ pub enum Shown {
 }
 
 // What a look-up comes to: what is shown, and where its name lies in its book, with how many octets.
-#[derive(Drop)]
+#[derive(Clone, Copy)]
 pub struct LookedUp {
     pub shown: Shown,
     pub at: usize,
@@ -39,7 +40,7 @@ pub struct LookedUp {
 }
 
 // An entry's number, and where its name lies, with how many octets; number 0 for none.
-#[derive(Drop)]
+#[derive(Clone, Copy)]
 struct Place {
     number: usize,
     at: usize,
@@ -47,7 +48,7 @@ struct Place {
 }
 
 // What the pass over a book comes to.
-#[derive(Drop)]
+#[derive(Clone, Copy)]
 enum Passed {
     Refused(u8, usize),
     Read(Place),

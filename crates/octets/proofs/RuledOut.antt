@@ -11,7 +11,7 @@ use Rattle.octets.specs.Over.{over}
 use Rattle.octets.specs.Calls.{fits_at, added}
 use Rattle.octets.specs.declared.Kept.{Kept}
 use Rattle.octets.specs.Keeping.{kept_of}
-use Rattle.octets.proofs.Outcome.{RuledOut, RuledOutWith, Place, lent, never}
+use Rattle.octets.proofs.Outcome.{RuledOut, RuledOutWith, Place, lent, lent_mut, never}
 use Rattle.octets.proofs.low_first_2.Reads as low_first_2
 use Rattle.octets.proofs.high_first_2.Reads as high_first_2
 use Rattle.octets.proofs.low_first_4.Reads as low_first_4
@@ -152,24 +152,24 @@ module _ (x y z : Place) where
 
   module _ (κs : Lfts 2) (under top : List ℕ) (at : ℕ) where
     -- octets refused that fit, those too that just do
-    put_refused : at + length top ≤ length under → RuledOut (put.Post κs) (lent x under, (at, (lent y top, tt))) false
+    put_refused : at + length top ≤ length under → RuledOut (put.Post κs) (lent_mut x under, (at, (lent y top, tt))) false
     unfolding fits_at
     put_refused fits s p = never (cc (le-leb (at + length top) (length under) fits))
 
     -- octets accepted that do not fit
-    put_accepted : length under < at + length top → RuledOut (put.Post κs) (lent x under, (at, (lent y top, tt))) true
+    put_accepted : length under < at + length top → RuledOut (put.Post κs) (lent_mut x under, (at, (lent y top, tt))) true
     unfolding fits_at
     put_accepted long s p = never (cc (lt-leb (at + length top) (length under) long))
 
     -- a refusal that leaves another buffer, whatever is put
     put_changed : (left : List ℕ) → (left ≡ under → ⊥)
-        → RuledOutWith (λ s. s.0.now) (put.Post κs) (lent x under, (at, (lent y top, tt))) false left
+        → RuledOutWith (λ s. s.0.now) (put.Post κs) (lent_mut x under, (at, (lent y top, tt))) false left
     unfolding fits_at
     put_changed left n s e p = n (cc)
 
   -- octets put at the start of the buffer and not at their place
   put_place : (κs : Lfts 2) (a b c : ℕ) → (b ≡ c → ⊥)
-      → RuledOutWith (λ s. s.0.now) (put.Post κs) (lent x (a ∷ b ∷ []), (1, (lent y (c ∷ []), tt))) true (c ∷ b ∷ [])
+      → RuledOutWith (λ s. s.0.now) (put.Post κs) (lent_mut x (a ∷ b ∷ []), (1, (lent y (c ∷ []), tt))) true (c ∷ b ∷ [])
   unfolding over fits_at
   put_place κs a b c n s e p = n (cc)
 

@@ -2,14 +2,14 @@
 ghost use Rattle.std.specs.Prelude.{◌≡◌};
 ghost use Rattle.profile.specs.Character.{low_bits, ones, even_parity, rightly};
 
-#[derive(Drop)]
+#[derive(Clone, Copy)]
 pub enum Profile {
     Ten,
     Eleven,
 }
 
 // What a line of eleven bits delivers: an octet and the parity bit that came with it.
-#[derive(Drop)]
+#[derive(Clone, Copy)]
 pub struct Character {
     pub octet: u8,
     pub parity: bool,

@@ -11,8 +11,8 @@ use Rattle.octets.specs.Numbers.{low_first, high_first}
 use Rattle.octets.proofs.Outcome.{RuledOut, Place, lent, never}
 use Rattle.records.specs.Records.{length_of, is_whole, whole_at, record_at, kind_at, place_after}
 use Rattle.records.proofs.length_of.Reads as length_of_call
-use Rattle.records.proofs.is_whole_call.Reads as is_whole_call
-use Rattle.records.proofs.kind_at_call.Reads as kind_at_call
+use Rattle.records.proofs.is_whole.Reads as is_whole_call
+use Rattle.records.proofs.kind_at.Reads as kind_at_call
 use Rattle.records.proofs.after.Reads as after
 
 -- to unfold this is to unfold what a whole record stands on

@@ -1,3 +1,4 @@
+#![tactic(auto)]
 // The records of any octets: whether a whole record stands at a place, its kind, and the place after it.
 ghost use Rattle.std.specs.Prelude.{◌≡◌, ◌≤◌};
 ghost use Rattle.records.specs.Records.{length_of, whole_at, kind_at, place_after};

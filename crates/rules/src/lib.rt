@@ -17,14 +17,14 @@ use label::LabelB;
 use message::{Addresses, Deed, Request, Row, RowFound};
 
 // The password session: closed, or open for a point.
-#[derive(Drop)]
+#[derive(Clone, Copy)]
 pub enum Session {
     Closed,
     Open(PointAddress),
 }
 
 // The rules by which a message is refused, in document 01's order, and that none of them applies.
-#[derive(Drop)]
+#[derive(Clone, Copy)]
 pub enum Rule {
     Marked,
     UnknownType,

@@ -7,7 +7,7 @@ ghost use Rattle.stream.specs.Texts.{Out, AddedFirst, Added, Told};
 ghost use Rattle.stream.specs.Window.{count_of, seen_in, taken_of, has_in, Kept, Filled};
 
 // What has been read and not taken yet: the octets of a space from one index to another.
-#[derive(Drop)]
+#[derive(Clone, Copy)]
 pub struct Window {
     pub from: usize,
     pub to: usize,
@@ -136,7 +136,7 @@ pub fn filled(space: &mut [u8], window: Window, size: usize) -> Window
 }
 
 // Texts that wait to be written: how many octets of a block they have, and whether everything before them could be written.
-#[derive(Drop)]
+#[derive(Clone, Copy)]
 pub struct Texts {
     pub count: usize,
     pub going: bool,

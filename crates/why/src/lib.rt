@@ -17,7 +17,7 @@ use octets::Kept;
 use rules::Rule;
 
 // What is answered: that the image is not sound, that a message is under 6 or over 252 octets long, or the rule.
-#[derive(Drop)]
+#[derive(Clone, Copy)]
 pub enum Why {
     ImageUnsound,
     MessageLength,

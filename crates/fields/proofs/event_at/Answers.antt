@@ -1,0 +1,25 @@
+-- `fields::event_at` answers the event at a place.
+-- By the record cut out there. Assumes nothing.
+use mathlib.Core.Path.{sym, ◌∙◌}
+use native.Mathlib.Omega.{arith}
+use Rattle.records.specs.Records.{length_of}
+use Rattle.fields.specs.Parts.{spa_of, spq_of}
+use Rattle.fields.proofs.Parts.{room_of}
+use Rattle.fields.proofs.Answers.{event-is, no-event}
+use borrow.Author.Rules.{rules}
+use Rattle.fields.proofs.event_at.Goals as goal
+
+pub overflow_add-r : goal.overflow_add-r
+unfolding length_of
+overflow_add-r c = omega (arith, room_of _ _ 5 c.kind_at.ensures c.if-kind_at-eq5.true (omega arith))
+
+pub slice_bounds-r-end : goal.slice_bounds-r-end
+unfolding length_of
+slice_bounds-r-end c = omega (arith, room_of _ _ 5 c.kind_at.ensures c.if-kind_at-eq5.true (omega arith))
+
+pub returns-then-kind_at-eq5 : goal.returns-then-kind_at-eq5
+unfolding spa_of spq_of
+returns-then-kind_at-eq5 c = rw c.read.ensures (event-is _ _ (sym c.kind_at.ensures ∙ c.if-kind_at-eq5.true))
+
+pub returns : goal.returns
+returns c = no-event _ _ (λ e. c.if-kind_at-eq5.false (c.kind_at.ensures ∙ e))

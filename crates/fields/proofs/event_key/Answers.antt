@@ -1,0 +1,22 @@
+-- `fields::event_key` answers the key of the event at a place.
+-- By the record cut out there. Assumes nothing.
+use mathlib.Core.Path.{sym, ◌∙◌}
+use native.Mathlib.Omega.{arith}
+use Rattle.records.specs.Records.{length_of}
+use Rattle.fields.proofs.Parts.{room_of, key_event, key_not_as}
+use borrow.Author.Rules.{rules}
+use Rattle.fields.proofs.event_key.Goals as goal
+
+pub overflow_add-r : goal.overflow_add-r
+unfolding length_of
+overflow_add-r c = omega (arith, room_of _ _ 5 c.kind_at.ensures c.if-kind_at-eq5.true (omega arith))
+
+pub slice_bounds-r-end : goal.slice_bounds-r-end
+unfolding length_of
+slice_bounds-r-end c = omega (arith, room_of _ _ 5 c.kind_at.ensures c.if-kind_at-eq5.true (omega arith))
+
+pub returns-then-kind_at-eq5 : goal.returns-then-kind_at-eq5
+returns-then-kind_at-eq5 c = rw (c.labelled.ensures, c.read.ensures) (sym (key_event _ _ (sym c.kind_at.ensures ∙ c.if-kind_at-eq5.true)))
+
+pub returns : goal.returns
+returns c = c.other_key.ensures ∙ sym (key_not_as _ _ 5 (λ e. c.if-kind_at-eq5.false (c.kind_at.ensures ∙ e)))

@@ -1,0 +1,9 @@
+-- `Header::read` answers the header of a message.
+-- Octet by octet. Assumes nothing.
+use Rattle.message.specs.Headers.{header_of}
+use borrow.Author.Rules.{rules}
+use Rattle.message.proofs.Header.read.Goals as goal
+
+pub returns : goal.returns
+unfolding header_of
+returns c = cc
