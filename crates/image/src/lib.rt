@@ -1,3 +1,4 @@
+#![tactic(auto)]
 // Whether an image is sound. The records are walked once, with constant work a record. Readings and events stand in long runs of one
 // kind; a walk over a run keeps the instant of the last record, so that each label is judged once, and looks a point up among the
 // first records only where it differs from the last record's.

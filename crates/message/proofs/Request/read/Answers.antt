@@ -7,4 +7,4 @@ use Rattle.message.proofs.Request.read.Goals as goal
 
 pub returns : goal.returns
 unfolding request_of
-returns c = rw (c.label_at.ensures, c.label_at-2.ensures, c.read.ensures, c.part.ensures, label_b_cut, c.labels_from_lem.ensures.0, c.read-header.ensures, c.octet_at.ensures, c.octet_at-2.ensures, c.password_of.ensures)
+returns c = rw (c.label_at.ensures, c.label_at-2.ensures, c.read.ensures, c.part.ensures, label_b_cut, c.labels_from-labels.ensures.0, c.read-header.ensures, c.octet_at.ensures, c.octet_at-2.ensures, c.password_of.ensures)
