@@ -1,3 +1,4 @@
+#![tactic(auto)]
 // What is chosen from an image: the n-th of the chosen records, and the next from a place on. One walk serves both.
 ghost use Rattle.std.specs.Prelude.{◌≡◌, ◌&&◌, eqb};
 ghost use Rattle.std.specs.Int.Signed.{le_z};

@@ -1,3 +1,4 @@
+#![tactic(auto)]
 // Why a label is not valid, and why an image is not sound: the first thing that is wrong, by name and by place. For a tool that explains
 // captures; each call looks again at what it needs, since clarity counts here and speed does not.
 ghost use Rattle.std.specs.Prelude.{◌≡◌, true, not, ◌&&◌, [], ◌≤◌, ◌<◌, leb, eqb, drop};
