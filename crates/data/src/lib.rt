@@ -1,3 +1,4 @@
+#![tactic(auto)]
 // The data messages that the card gives: types 1, 8, 11, 71, 72 and 131.
 ghost use Rattle.std.specs.Prelude.{◌≤◌, true, [], ◌≡◌, length, take, drop};
 ghost use Rattle.records.specs.Records.{kind_at, record_at};

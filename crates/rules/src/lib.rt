@@ -1,3 +1,4 @@
+#![tactic(auto)]
 // Requests: the first rule of document 01 that applies to a message.
 ghost use Rattle.std.specs.Prelude.{◌&&◌, not, false, ◌≡◌, eqb};
 ghost use Rattle.octets.specs.Choice.{if◌then◌else◌};

@@ -1,0 +1,23 @@
+-- `events` answers the message of up to 27 events after those given already.
+-- The header, which says how many they are, stands before the gathered. Assumes nothing.
+use native.Mathlib.Omega.{arith}
+use lib.ListN.{drop}
+use Rattle.choice.specs.declared.Query.TheVariants.{Event}
+use Rattle.choice.specs.Choice.{choice}
+use Rattle.data.specs.Portions.{next_events}
+use Rattle.data.proofs.Portions.{few_events, no_events, some_events}
+use borrow.Author.Rules.{rules}
+use Rattle.data.proofs.events.Goals as goal
+
+pub returns-then-many-eq0 : goal.returns-then-many-eq0
+unfolding next_events
+returns-then-many-eq0 c = no_events _ _ c.gathered-next.ensures c.if-many-eq0.true
+
+pub overflow_cast-many : goal.overflow_cast-many
+overflow_cast-many c =
+    let a = c.args in
+    omega (arith, few_events (drop a.before (choice (Event a.span) a.image.now)) c.gathered-next.ensures)
+
+pub returns : goal.returns
+unfolding next_events
+returns c = some_events _ _ c.gathered-next.ensures c.if-many-eq0.false c.headed.ensures c.followed.ensures

@@ -1,0 +1,22 @@
+-- `reading` answers the message of the reading after those given already, with the objects that are asked for.
+-- By whether they are offered and whether a reading is found. Assumes nothing.
+use mathlib.Core.Path.{sym, ◌∙◌}
+use Rattle.octets.proofs.Choice.{told}
+use Rattle.data.proofs.Portions.{not_offered, no_reading, some_reading, reading_found}
+use borrow.Author.Rules.{rules}
+use Rattle.data.proofs.reading.Goals as goal
+
+pub returns-in_default : goal.returns-in_default
+returns-in_default c = no_reading _ _ _ _ _ (told c.are_offered.ensures c.if-are_offered.true) c.find.ensures c.in_default.is c.none.ensures
+
+pub reading_at-requires : goal.reading_at-requires
+reading_at-requires c = record {
+  at_value = reading_found _ _ _ _ (sym c.find.ensures ∙ c.in-At.is);
+  objects_value = told c.are_offered.ensures c.if-are_offered.true
+}
+
+pub returns-then-are_offered : goal.returns-then-are_offered
+returns-then-are_offered c = some_reading _ _ _ _ _ (told c.are_offered.ensures c.if-are_offered.true) c.find.ensures _ c.in-At.is c.reading_at.ensures
+
+pub returns : goal.returns
+returns c = not_offered _ _ _ _ _ (told c.are_offered.ensures c.if-are_offered.false) c.none-2.ensures

@@ -1,0 +1,22 @@
+-- `reading_at` answers the message of the reading at a place, with the objects that are asked for.
+-- The loop's invariant: those before the next one stand behind the header. Assumes nothing.
+use Prim.Native.Nat.{ℕ, ◌+◌, ◌-◌, ◌≤◌}
+use mathlib.Core.List.{List, ◌++◌}
+use mathlib.Core.Path.{◌≡◌}
+use borrow.Author.Rules.{rules}
+use lib.ListN.{length}
+use Rattle.records.specs.Records.{record_at}
+use Rattle.octets.specs.Keeping.{kept_of}
+use Rattle.message.specs.Calls.{Offered}
+use Rattle.message.specs.Requests.{objects_many}
+use Rattle.message.proofs.Requests.{offered_so}
+use Rattle.data.specs.Messages.{reply_header, objects_octets, reading_reply}
+use Rattle.data.proofs.Messages.{header_length}
+use Rattle.data.proofs.Written.{no_object_yet, with_object, with_label, label_of_key}
+use Rattle.data.proofs.reading_at.Given as goal
+
+abbrev pub invariant-loop-object : goal.invariant-loop-object
+invariant-loop-object l = Offered l.objects × (l.objects.first ≤ l.object) × (l.object ≤ l.objects.last + 1) × ((xs : List ℕ) → length xs ≡ 6 → l.initial.message ≡ kept_of xs → l.message ≡ kept_of (xs ++ objects_octets l.objects.first (l.object - l.objects.first) (record_at l.image l.at)))
+
+abbrev pub decreases-loop-object : goal.decreases-loop-object
+decreases-loop-object l = l.objects.last + 1 - l.object

@@ -1,0 +1,35 @@
+-- `Rule::pn` answers a rule's P/N.
+-- By the rule. Assumes nothing.
+use Prim.Native.Nat.{ℕ}
+use mathlib.Core.Bool.{Bool, false}
+use mathlib.Core.List.{List, [], ◌∷◌}
+use mathlib.Core.Path.{◌≡◌, refl}
+use types.Run.{OneOf, miss}
+use borrow.Enum.Refused.{opened}
+use denote.Enum.Declared.{tag_of}
+use Rattle.message.specs.declared.Deed.{Deed}
+use Rattle.message.specs.declared.Deed.TheVariants.{Refused}
+use Rattle.rules.specs.contracts.Rule.{the_type}
+use Rattle.rules.specs.declared.Rule.{Rule}
+use Rattle.rules.proofs.Rules.{Ruled, accepts, shuts_out, wrong_time, refuses, ruled}
+use borrow.Author.Rules.{rules}
+use Rattle.rules.proofs.Rule.pn.Goals as goal
+
+abbrev others : List ℕ
+others = 0 ∷ 1 ∷ 2 ∷ 3 ∷ 4 ∷ 5 ∷ 6 ∷ 7 ∷ 8 ∷ 9 ∷ 10 ∷ 11 ∷ 12 ∷ 13 ∷ 14 ∷ 15 ∷ 18 ∷ []
+
+-- every other rule
+no-pn : {its : Deed} {rule : Rule} {said : ℕ × Bool × Deed} → Ruled its rule said → OneOf others (tag_of the_type rule) → false ≡ said.1
+no-pn accepts o = refl
+no-pn shuts_out o = absurd (miss others 17 tt o)
+no-pn wrong_time o = absurd (miss others 16 tt o)
+no-pn (refuses small) o = refl
+
+pub returns-in-TimeLabel : goal.returns-in-TimeLabel
+returns-in-TimeLabel c = rw c.in-TimeLabel.is
+
+pub returns-in-WrongPassword : goal.returns-in-WrongPassword
+returns-in-WrongPassword c = rw c.in-WrongPassword.is
+
+pub returns-in_default : goal.returns-in_default
+returns-in_default c = no-pn (ruled c.args.self Refused) (opened c.in_default.in_default-own.keys3)
