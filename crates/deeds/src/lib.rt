@@ -1,3 +1,4 @@
+#![tactic(auto)]
 // What a message does when it is carried out: the session, the order to the meter, what waits.
 ghost use Rattle.std.specs.Prelude.{◌≡◌, ◌++◌, replicate};
 ghost use Rattle.label.specs.Label.{label_a_octets, label_b_octets};

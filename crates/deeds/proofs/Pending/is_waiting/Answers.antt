@@ -11,8 +11,8 @@ use Rattle.deeds.specs.declared.Waiting.{Waiting}
 use Rattle.deeds.specs.declared.Waiting.TheVariants.{NoReply, Mirror, Denied, Begin, More, Type71, Type72, Type131}
 use Rattle.deeds.specs.Deeds.{is_waiting}
 use borrow.Author.Rules.{rules}
-use Rattle.deeds.proofs.Pending.is_waiting.Statement.{statement}
-use Rattle.deeds.proofs.Pending.is_waiting.Tie as tie
+use borrow.Enum.Refused.{opened}
+use Rattle.deeds.proofs.Pending.is_waiting.Goals as goal
 
 abbrev others : List ℕ
 others = 1 ∷ 2 ∷ 3 ∷ 4 ∷ 5 ∷ 6 ∷ 7 ∷ []
@@ -27,14 +27,5 @@ waits Type71 o = refl
 waits Type72 o = refl
 waits Type131 o = refl
 
-enum_told : tie.Need-enum-told
-enum_told c = search rules
-
-returns : tie.Need-returns
-returns c = search rules
-
-returns-2 : tie.Need-returns-2
-returns-2 c = waits c.before.args.self.waiting c.match.keys2
-
-pub is-waiting-spec : {M : Type 1} → statement M
-is-waiting-spec = tie.close (tie.spec enum_told returns returns-2)
+pub returns-in_default : goal.returns-in_default
+returns-in_default c = waits c.args.self.waiting (opened c.in_default.in_default-own.keys2)
