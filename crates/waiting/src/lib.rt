@@ -1,3 +1,4 @@
+#![tactic(auto)]
 // The replies that wait: the next one, worked out from the image lent with its own gap.
 ghost use Rattle.std.specs.Prelude.{◌+◌, ◌<◌, ◌^◌, ◌≡◌};
 ghost use Rattle.message.specs.Requests.{request_of};
