@@ -1,0 +1,9 @@
+-- `begin` answers mirror 7, and that data waits.
+-- By its parts. Assumes nothing.
+use Rattle.waiting.specs.NextReply.{firstly, begin_with}
+use borrow.Author.Rules.{rules}
+use Rattle.waiting.proofs.begin.Goals as goal
+
+pub returns : goal.returns
+unfolding begin_with firstly
+returns c = rw (c.«data».ensures, c.mirrored.ensures)
