@@ -3,7 +3,8 @@
 // Octets from standard input and text to standard output, both by the block. One read brings what is there, which may be many runs; none is
 // made while enough octets stand in the window, and none waits for more than is asked for. Texts wait in a block until it is full, or until
 // the program is about to read.
-ghost use Rattle.std.specs.Prelude.{◌+◌, ◌-◌, ◌≤◌, false, ◌≡◌, length, take, drop};
+ghost use Rattle.std.specs.Prelude.{◌+◌, ◌-◌, ◌≤◌, false, true, ◌≡◌, length, take, drop};
+ghost use Rattle.std.specs.Io.KnownBytes.{Appends};
 ghost use Rattle.octets.specs.Over.{over, laid_in, Does};
 ghost use Rattle.stream.specs.Texts.{Out, AddedFirst, Added, Told};
 ghost use Rattle.stream.specs.Window.{count_of, seen_in, taken_of, has_in, Kept, Filled};
@@ -149,24 +150,24 @@ pub struct Texts {
     pub going: bool,
 }
 
-// Writes a text, and answers whether it could: it stops at the first write that takes nothing or fails. Nothing can be promised: the contract of
-// `write` says nothing of what is written, since no contract speaks of the world outside, and whether it could be written is the world's answer.
-fn write_whole<W: Write>(to: &mut W, text: &[u8]) -> bool {
+// Writes a text, and answers whether it could: it stops at the first write that takes nothing or fails. Where it could, what the writer holds, if that
+// is known, has the text behind it.
+fn write_whole<W: Write>(to: &mut W, text: &[u8]) -> bool
+    ensures { result ≡ true → Appends (W.contents to.old) (W.contents to.new) text.now }
+{
     let mut done = 0;
     while done < text.len() {
-        let more = match to.write(&text[done..]) {
-            Ok(put) => put,
-            Err(_) => 0,
-        };
-        if more == 0 {
-            return false;
+        match to.write(&text[done..]) {
+            Ok(0) => return false,
+            Ok(more) => done += more,
+            Err(_) => return false,
         }
-        done += more;
     }
     true
 }
 
-// Writes a text to standard output, and answers whether it could.
+// Writes a text to standard output, and answers whether it could. Nothing can be promised: no contract speaks of the world outside, and whether it
+// could be written is the world's answer.
 pub fn say(output: Stdout, text: &[u8]) -> bool
     ensures { Unit {0} }
 {
@@ -174,7 +175,7 @@ pub fn say(output: Stdout, text: &[u8]) -> bool
     write_whole(&mut to, text)
 }
 
-// Writes a text to standard error, and answers whether it could.
+// The same to standard error.
 pub fn complain(error: Stderr, text: &[u8]) -> bool
     ensures { Unit {0} }
 {
