@@ -43,8 +43,8 @@ pub its_entries : {book : List ℕ} (b : SoundBook book) → entries_of book ≡
 its_entries b = ap entries_of b.laid ∙ entries_again b.its b.in_order
 
 -- of the first so many entries of octets, those that pass are in order
-in_order : (s : List ℕ) (many : ℕ) → first_fault 1 (code 0 0) (take many (entries s)) ≡ Sound → InOrder (take many (entries s))
-in_order s many q = record {
+in_order_law : (s : List ℕ) (many : ℕ) → first_fault 1 (code 0 0) (take many (entries s)) ≡ Sound → InOrder (take many (entries s))
+in_order_law s many q = record {
   right = λ n h.
       let f = each_fine 1 (code 0 0) (take many (entries s)) q n h in
       let least : n < many = omega (arith, length-take many (entries s)) in
@@ -62,7 +62,7 @@ entries_in_order : (book : List ℕ) → first_fault 1 (code 0 0) (entries_of bo
 unfolding entries_of
 entries_in_order book q =
     let es = entries (drop 1 book) in
-    rw (all_of es) at (in_order (drop 1 book) (length es) (rw (all_of es) q))
+    rw (all_of es) at (in_order_law (drop 1 book) (length es) (rw (all_of es) q))
 
 -- the entries of a book that is said to be sound are in order
 pub record SaidSound (book : List ℕ) : Type 0 where
@@ -172,7 +172,7 @@ named book fault k e q =
     record {
       from_1 = l.from;
       there = omega (arith, l.to);
-      before_in_order = in_order (drop 1 book) (k - 1) l.prior;
+      before_in_order = in_order_law (drop 1 book) (k - 1) l.prior;
       deserved = deserves (drop 1 book) fault k l l.found l.some;
     }
 

@@ -9,7 +9,6 @@ use native.Mathlib.Omega.{arith}
 use borrow.Author.Tests.{lt-ltb, le-ltb, ltb-true, ltb-false, eq-eqb, ne_eqb, eqb-true, eqb-false}
 use lib.Dec.{ltb, eqb}
 use lib.ListN.{length, get_or}
-use Rattle.octets.specs.Choice.{if◌then◌else◌}
 use Rattle.octets.proofs.Choice.{either, flipped, not_both}
 use Rattle.octets.proofs.Outcome.{never}
 use Rattle.names.specs.declared.Code.{Code}

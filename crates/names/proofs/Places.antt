@@ -16,7 +16,7 @@ use Rattle.names.specs.declared.Code.{Code}
 use Rattle.names.specs.declared.Place.{Place}
 use Rattle.names.specs.Codes.{code, same_code}
 use Rattle.names.specs.Book.{code_of, length_of, size_of, entries_of}
-use Rattle.names.specs.LookUp.{place, find_in, find, name_in}
+use Rattle.names.specs.LookUp.{find_in, find, name_in}
 use Rattle.names.specs.working.Pass.{entry_at, entries_from}
 use Rattle.names.proofs.Entries.{entries_end, entries_more, length_of_law, name_there}
 

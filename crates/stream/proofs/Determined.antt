@@ -22,15 +22,15 @@ to_front_one : OneOutcome (λ κs s. s.0.now) to_front.Post
 to_front_one κs a r r' s s' e f = (refl, one_outcome e f)
 
 -- where so many octets stand in the window already
-filled_one : OneOutcome (λ κs s. s.0.now) (λ κs a r s. (has_in a.0.now a.1.0 a.1.1.0 ≡ true) × filled.Post κs a r s)
+filled_one : OneOutcome (λ κs s. s.1.0.now) (λ κs a r s. (has_in a.1.0.now a.1.1.0 a.1.1.1.0 ≡ true) × filled.Post κs a r s)
 filled_one κs a r r' s s' (enough, e) (_, f) =
     (one_outcome (e.same_window enough) (f.same_window enough), one_outcome (e.unchanged enough) (f.unchanged enough))
 
 -- where a text fits behind those that wait, and others follow
-tell_one : OneOutcome (λ κs s. s.0.now) (λ κs a r s. (fits_at a.0.now a.1.0.count a.1.1.0.now ≡ true) × (a.1.1.1.0 ≡ true) × tell.Post κs a r s)
+tell_one : OneOutcome (λ κs s. s.1.0.now) (λ κs a r s. (fits_at a.1.0.now a.1.1.0.count a.1.1.1.0.now ≡ true) × (a.1.1.1.1.0 ≡ true) × tell.Post κs a r s)
 tell_one κs a r r' s s' (fits, more, e) (_, _, f) =
     (one_outcome ((e.goes_on more).count_behind fits) ((f.goes_on more).count_behind fits), one_outcome e.left_so f.left_so)
 
 -- and where none follows
-tell_last_one : OneOutcome (λ κs s. s.0.now) (λ κs a r s. (a.1.1.1.0 ≡ false) × tell.Post κs a r s)
+tell_last_one : OneOutcome (λ κs s. s.1.0.now) (λ κs a r s. (a.1.1.1.1.0 ≡ false) × tell.Post κs a r s)
 tell_last_one κs a r r' s s' (last, e) (_, f) = (one_outcome (e.ends last) (f.ends last), one_outcome e.left_so f.left_so)

@@ -2,7 +2,6 @@
 -- By what the pass comes to, whatever code it looks for. Assumes nothing.
 use mathlib.Core.Path.{sym, ◌∙◌}
 use Rattle.names.proofs.Passes.{is_refused, is_read}
-use borrow.Author.Rules.{rules}
 use Rattle.names.proofs.check.Goals as goal
 
 pub returns-in-Refused : goal.returns-in-Refused

@@ -2,7 +2,6 @@
 -- By the entry's first two octets. Assumes nothing.
 use mathlib.Core.Path.{sym}
 use Rattle.names.proofs.Entries.{code_of_law}
-use borrow.Author.Rules.{rules}
 use Rattle.names.proofs.code_at.Goals as goal
 
 pub returns : goal.returns

@@ -6,7 +6,6 @@ use native.Mathlib.Omega.{arith}
 use borrow.Author.Tests.{lt-ltb, le-ltb, eq-eqb, ne_eqb}
 use Rattle.octets.proofs.Choice.{told}
 use Rattle.names.proofs.Entries.{fault_cut, fault_fits}
-use borrow.Author.Rules.{rules}
 use Rattle.names.proofs.fault_at.Goals as goal
 
 pub returns-then-book-at-lt3 : goal.returns-then-book-at-lt3

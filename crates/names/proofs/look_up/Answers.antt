@@ -4,7 +4,6 @@ use mathlib.Core.Path.{sym, ◌∙◌}
 use borrow.Author.Tests.{lt-ltb, le-ltb}
 use Rattle.names.specs.LookUp.{looked_up, unless_refused, from_either}
 use Rattle.names.proofs.Passes.{is_refused, is_read}
-use borrow.Author.Rules.{rules}
 use Rattle.names.proofs.look_up.Goals as goal
 
 pub returns-then-first-gt0 : goal.returns-then-first-gt0

@@ -2,7 +2,6 @@
 -- What lies where the look_up says is the name of the entry that is shown. Assumes nothing.
 use mathlib.Core.Path.{◌∙◌}
 use Rattle.names.proofs.Shows.{cut_is_name}
-use borrow.Author.Rules.{rules}
 use Rattle.names.proofs.name.Goals as goal
 
 pub returns : goal.returns

@@ -2,7 +2,6 @@
 -- By what is shown. Assumes nothing.
 use mathlib.Core.Path.{◌∙◌}
 use Rattle.names.specs.LookUp.{cut_from, cut_out}
-use borrow.Author.Rules.{rules}
 use Rattle.names.proofs.name_at.Goals as goal
 
 pub returns-in-Chosen : goal.returns-in-Chosen

@@ -1,14 +1,10 @@
 -- `names::pass` comes to the check of a book and the place of a code's entry.
 -- The loop's invariant: from here on, with what was found before, the pass comes to that over the whole book. Assumes nothing.
-use Prim.Native.Nat.{◌+◌, ◌-◌, ◌≤◌, ◌<◌}
-use mathlib.Core.Path.{◌≡◌, sym, ◌∙◌}
-use native.Mathlib.Omega.{arith}
-use borrow.Author.Rules.{rules}
-use lib.ListN.{length, get_or}
-use Rattle.names.specs.LookUp.{place, none}
+use Prim.Native.Nat.{◌-◌, ◌≤◌}
+use mathlib.Core.Path.{◌≡◌}
+use lib.ListN.{length}
+use Rattle.names.specs.LookUp.{none}
 use Rattle.names.specs.working.Pass.{kept, pass_from, passed}
-use Rattle.names.proofs.Entries.{fault_none}
-use Rattle.names.proofs.Turns.{version_there, kept_none, kept_on, pass_no_version, pass_start, pass_end, pass_fault, pass_step}
 use Rattle.names.proofs.pass.Given as goal
 
 abbrev pub invariant-loop-at : goal.invariant-loop-at
