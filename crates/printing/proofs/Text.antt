@@ -6,12 +6,13 @@ use mathlib.Core.Path.{◌≡◌, refl, sym, ◌∙◌}
 use native.Mathlib.Nat.{pow-suc, one-le-pow, suc-mul, zero-mul, mod-lt, mod-add-div', mul-le-mul_right}
 use native.Mathlib.Numerals.{add-one}
 use native.Mathlib.Omega.{arith}
-use borrow.Author.Tests.{lt-ltb, ltb-true, ltb-false}
+use borrow.Author.Tests.{lt-ltb, le-ltb, ltb-true, ltb-false}
 use lib.Arith.{digits_lt}
 use lib.Dec.{ltb}
 use lib.ListN.{length, take, get_or, length-append}
 use lib.Seq.{take-suc}
-use Rattle.io.specs.Digits.{last_digits, IsDigitCount}
+use Rattle.std.specs.Prelude.{decimal as decimal_text}
+use Rattle.std.proofs.lemmas.Fmt.{AppendsLastDigit, decimal_from_appends, length-decimal-le}
 use Rattle.octets.proofs.Choice.{either}
 use Rattle.printing.specs.Text.{figures, decimal, pair_of, pairs}
 
@@ -28,49 +29,17 @@ pub decimal_length : (n : ℕ) → length (decimal n) ≤ 20
 unfolding decimal
 decimal_length n = figures_length 20 n
 
--- the fewest digits that hold a number are its figures
-one_digit : (n : ℕ) → n < 10 → last_digits 10 1 n ≡ (48 + n) ∷ []
-one_digit n h =
-    let e : n % 10 ≡ n = omega arith in
-    rw (e, lt-ltb n 10 h)
-
-last_digit : (n : ℕ) (rest : List ℕ) (k : ℕ) → last_digits 10 k (n / 10) ≡ rest → last_digits 10 (suc k) n ≡ rest ++ (48 + n % 10) ∷ []
-last_digit n rest k e =
-    let small : n % 10 < 10 = omega arith in
-    rw (e, lt-ltb (n % 10) 10 small)
-
-few_one : (n k : ℕ) → n < 10 → IsDigitCount 10 1 n (suc k) → k ≡ 0
-few_one n zero small f = refl
-few_one n (suc k) small f =
-    let back : suc (suc k) - 1 ≡ suc k = omega arith in
-    let least : 10 ^ suc k ≤ n = rw back at (f.2 (omega arith)) in
-    let some : 1 ≤ 10 ^ k = one-le-pow k 10 (omega arith) in
-    absurd (omega (arith, pow-suc 10 k))
-
-few_less : (n k : ℕ) → 10 ≤ n → IsDigitCount 10 1 n (suc k) → IsDigitCount 10 1 (n / 10) k
-few_less n zero large f = absurd (omega (arith, f.1, pow-suc 10 0))
-few_less n (suc k) large f =
-    let back : suc (suc k) - 1 ≡ suc k = omega arith in
-    let less : suc k - 1 ≡ k = omega arith in
-    let least : 10 ^ suc k ≤ n = rw back at (f.2 (omega arith)) in
-    (omega arith, omega (arith, f.1, pow-suc 10 (suc k)), (λ h. rw less (omega (arith, pow-suc 10 k))))
-
-digits_figures : (places k n : ℕ) → n < 10 ^ suc places → IsDigitCount 10 1 n k → last_digits 10 k n ≡ figures (suc places) n
+-- what the kit writes of a number are its figures
+appends : AppendsLastDigit figures
 unfolding figures
-digits_figures places zero n room f = absurd (omega (arith, f.0))
-digits_figures zero (suc k) n room f =
-    let small : n < 10 = omega (arith, pow-suc 10 0) in
-    rw (few_one n k small f, lt-ltb n 10 small) (one_digit n small)
-digits_figures (suc places) (suc k) n room f =
-    either (λ (l : List ℕ). last_digits 10 (suc k) n ≡ l) (ltb n 10)
-    (λ t. let small : n < 10 = ltb-true n 10 t in rw (few_one n k small f) (one_digit n small))
-    (λ t. let large : 10 ≤ n = ltb-false n 10 t in
-    last_digit n (figures (suc places) (n / 10)) k
-    (digits_figures places k (n / 10) (omega (arith, pow-suc 10 (suc places))) (few_less n k large f)))
+appends = record {
+  one = λ k n h. rw (lt-ltb n 10 h);
+  more = λ k n h. rw (le-ltb n 10 h);
+}
 
-pub digits_decimal : (k n : ℕ) {some : List ℕ} → n < 18446744073709551616 → IsDigitCount 10 1 n k × (some ≡ last_digits 10 k n) → some ≡ decimal n
+pub digits_decimal : (n : ℕ) → n < 2 ^ 64 → decimal_text n ≡ decimal n
 unfolding decimal
-digits_decimal k n word f = f.1 ∙ digits_figures 19 k n (omega arith) f.0
+digits_decimal n h = sym (decimal_from_appends figures appends 20 n h (length-decimal-le 20 n (omega arith) (omega arith) h))
 
 -- pairs: how many octets they have, and one more behind the first i
 pub pairs_length : (before octets : List ℕ) → length (pairs before octets) ≡ length octets * (length before + 2)

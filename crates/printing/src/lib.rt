@@ -1,3 +1,4 @@
+#![tactic(auto)]
 // The lines that the programs print: functions that write into a lent buffer, so that a program only reads, calls and writes.
 ghost use Rattle.std.specs.Prelude.{◌+◌, ◌*◌, ◌≤◌, ◌<◌, ◌++◌, ◌≡◌, ltb, length, take};
 ghost use Rattle.octets.specs.Calls.{added};
@@ -70,9 +71,8 @@ fn number_column(text: &mut [u8], at: usize, n: u64) -> usize
     requires { at + 21 ≤ length text.old }
     ensures { PutShort 21 text.old at (decimal n ++ space) result text.new }
 {
-    let mut figures = [0u8; 20];
-    let count = io::decimal(n, &mut figures);
-    let end = put_part(text, at, &figures[..count]);
+    let mut figures = itoa::Buffer::new();
+    let end = put_part(text, at, figures.format(n).as_bytes());
     put_space(text, end)
 }
 
@@ -193,9 +193,8 @@ fn lay(out: &mut [u8], text: &[u8], end: usize, before: &[u8], octets: &[u8]) ->
 pub fn with_decimal(text: Kept, n: u64) -> Kept
     ensures { result ≡ added text (decimal n) }
 {
-    let mut figures = [0u8; 20];
-    let count = io::decimal(n, &mut figures);
-    text.with(&figures[..count])
+    let mut figures = itoa::Buffer::new();
+    text.with(figures.format(n).as_bytes())
 }
 
 // Writes a text, or nothing where it does not fit, and answers how many octets are written.

@@ -6,44 +6,37 @@ use borrow.Author.Tests.{lt-ltb, le-ltb}
 use Prim.Native.Nat.{◌+◌, ◌≤◌, ◌/◌, ◌*◌}
 use Rattle.printing.proofs.Text.{too_many, not_too_many}
 use borrow.Author.Rules.{rules}
-use Rattle.printing.proofs.fits.Statement.{statement}
-use Rattle.printing.proofs.fits.Tie as tie
+use Rattle.printing.proofs.fits.Goals as goal
 
-div-if1 : tie.Need-nonzero-div-if1
-div-if1 c = search rules
+pub returns-then-room-width : goal.returns-then-room-width
+returns-then-room-width c =
+    let a = c.args in
+    sym (le-ltb (a.rest + a.many * a.width) a.room (omega (arith, too_many a.room a.width a.many c.requires c.if-room-width.true)))
 
-returns : tie.Need-returns
-returns c =
-    let a = c.before.args in
-    sym (le-ltb (a.rest + a.many * a.width) a.room (omega (arith, too_many a.room a.width a.many c.before.requires c.if1.true)))
-
-mul-if2 : tie.Need-overflow-mul-if2
-mul-if2 c =
-    let a = c.before.args in
+pub overflow_mul-many : goal.overflow_mul-many
+overflow_mul-many c =
+    let a = c.args in
     let h : a.many ≤ a.room / a.width = search rules in
     let fit = not_too_many a.room a.width a.many h in
-    omega (arith, c.before.ranges)
+    omega (arith, c.ranges)
 
-sub-if2 : tie.Need-overflow-sub-if2
-sub-if2 c =
-    let a = c.before.args in
+pub overflow_sub-room : goal.overflow_sub-room
+overflow_sub-room c =
+    let a = c.args in
     let h : a.many ≤ a.room / a.width = search rules in
     let fit = not_too_many a.room a.width a.many h in
     omega arith
 
-returns-2 : tie.Need-returns-2
-returns-2 c =
-    let a = c.before.before.args in
+pub returns-then-room-many : goal.returns-then-room-many
+returns-then-room-many c =
+    let a = c.args in
     let h : a.many ≤ a.room / a.width = search rules in
     let fit = not_too_many a.room a.width a.many h in
     sym (le-ltb (a.rest + a.many * a.width) a.room (omega arith))
 
-returns-3 : tie.Need-returns-3
-returns-3 c =
-    let a = c.before.before.args in
+pub returns : goal.returns
+returns c =
+    let a = c.args in
     let h : a.many ≤ a.room / a.width = search rules in
     let fit = not_too_many a.room a.width a.many h in
     sym (lt-ltb (a.rest + a.many * a.width) a.room (omega arith))
-
-pub fits-spec : {M : Type 1} → statement M
-fits-spec = tie.close (tie.spec div-if1 returns mul-if2 sub-if2 returns-2 returns-3)

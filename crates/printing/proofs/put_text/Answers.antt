@@ -1,0 +1,11 @@
+-- `put_text` writes a text, or leaves the buffer.
+-- By whether it could be put. Assumes nothing.
+use borrow.Author.Rules.{rules}
+use Rattle.printing.proofs.Lines.{put_lined, unput_lined}
+use Rattle.printing.proofs.put_text.Goals as goal
+
+pub returns-then-put : goal.returns-then-put
+returns-then-put c = put_lined _ _ c.put.ensures c.if-put.true
+
+pub returns : goal.returns
+returns c = unput_lined _ _ c.put.ensures c.if-put.false
