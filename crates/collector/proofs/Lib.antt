@@ -1,5 +1,3 @@
 pub mod Collecting
-mod Parameters
-mod Lent
 mod Determined
 mod RuledOut

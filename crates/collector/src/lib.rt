@@ -1,3 +1,4 @@
+#![tactic(auto)]
 // What comes in: the collector of characters, and the count of damaged runs.
 ghost use Rattle.std.specs.Prelude.{◌+◌, ◌-◌, ◌≤◌, ◌≡◌, length};
 ghost use Rattle.octets.specs.Over.{over};
@@ -12,7 +13,7 @@ use profile::Character;
 // The octets since the last gap: the first so many of the array, zeros behind. The mark says that a parity bit was wrong; it stands where the array leaves
 // one octet before the length, so that it costs no room. A length over 261 means overfull.
 #[repr(C)]
-#[derive(Drop)]
+#[derive(Clone, Copy)]
 pub struct Collector {
     pub octets: [u8; 261],
     pub marked: bool,

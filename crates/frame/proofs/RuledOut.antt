@@ -9,7 +9,7 @@ use Rattle.octets.specs.Sum.{octet_sum, checksum}
 use Rattle.octets.specs.declared.Kept.{Kept}
 use Rattle.octets.specs.Keeping.{octets_of, kept_of}
 use Rattle.octets.proofs.Choice.{either}
-use Rattle.octets.proofs.Outcome.{RuledOut, RuledOutWith, Place, lent, never}
+use Rattle.octets.proofs.Outcome.{RuledOut, RuledOutWith, Place, lent, lent_mut, never}
 use Rattle.address.specs.declared.LinkAddress.{LinkAddress}
 use Rattle.frame.specs.declared.Form.{Form}
 use Rattle.frame.specs.declared.Form.TheVariants as form
@@ -197,58 +197,58 @@ module _ (κs : Lfts 0) where
 
 module _ (κs : Lfts 1) (x : Place) (octets : List ℕ) where
   -- a reply written into a buffer of 260 octets, whatever the reply
-  write_short : (reply : Reply) (many : ℕ) → length octets ≡ 260 → RuledOut (write.Post κs) (lent x octets, (reply, tt)) (Octets many)
+  write_short : (reply : Reply) (many : ℕ) → length octets ≡ 260 → RuledOut (write.Post κs) (lent_mut x octets, (reply, tt)) (Octets many)
   unfolding answer_to
   write_short reply many short s p = omega (arith, ap (λ (r : Written). (written_says r).number) (rw short at p.answers))
 
   -- a buffer of 261 octets refused, whatever the reply
-  write_room : (reply : Reply) → length octets ≡ 261 → RuledOut (write.Post κs) (lent x octets, (reply, tt)) Short
+  write_room : (reply : Reply) → length octets ≡ 261 → RuledOut (write.Post κs) (lent_mut x octets, (reply, tt)) Short
   unfolding answer_to
   write_room reply room s p = omega (arith, ap (λ (r : Written). (written_says r).number) (rw room at p.answers))
 
   -- a short buffer refused and yet changed
   write_kept : (reply : Reply) (other : List ℕ) → length octets ≡ 260 → (other ≡ octets → ⊥)
-      → RuledOutWith (λ s. s.0.now) (write.Post κs) (lent x octets, (reply, tt)) Short other
+      → RuledOutWith (λ s. s.0.now) (write.Post κs) (lent_mut x octets, (reply, tt)) Short other
   unfolding left_of
   write_kept reply other short n s e p = n (cc (rw short at p.left_so))
 
   -- a NACK with the control octet of an ACK
   write_code : (user : Kept) → 261 ≤ length octets
-      → RuledOutWith (λ s. take 6 s.0.now) (write.Post κs) (lent x octets, (nack user, tt)) (Octets 6) (0x10 ∷ 0 ∷ 1 ∷ 0 ∷ 1 ∷ 0x16 ∷ [])
+      → RuledOutWith (λ s. take 6 s.0.now) (write.Post κs) (lent_mut x octets, (nack user, tt)) (Octets 6) (0x10 ∷ 0 ∷ 1 ∷ 0 ∷ 1 ∷ 0x16 ∷ [])
   unfolding left_of reply_octets reply_frame f.written f.start_with f.body_of low_octets octet_sum checksum
   write_code user room s e p = never (cc (ap (take 6) (rw (le-ltb (length octets) 261 room) at p.left_so)))
 
   -- the octet behind a NACK changed
   write_rest : (user : Kept) (changed : ℕ) → 261 ≤ length octets → (changed ≡ get_or octets 6 0 → ⊥)
-      → RuledOutWith (λ s. get_or s.0.now 6 0) (write.Post κs) (lent x octets, (nack user, tt)) (Octets 6) changed
+      → RuledOutWith (λ s. get_or s.0.now 6 0) (write.Post κs) (lent_mut x octets, (nack user, tt)) (Octets 6) changed
   unfolding left_of reply_octets reply_frame f.written f.start_with f.body_of low_octets
   write_rest user changed room n s e p =
       n (cc (ap (λ (l : List ℕ). get_or l 6 0) (rw (le-ltb (length octets) 261 room) at p.left_so), get_or-drop 6 octets 0 0))
 
   -- the octet behind a data reply of one user octet changed
   write_behind : (octet changed : ℕ) (behind : List ℕ) (link : LinkAddress) (many : ℕ) → 261 ≤ length octets → (changed ≡ get_or octets 10 0 → ⊥)
-      → RuledOutWith (λ s. get_or s.0.now 10 0) (write.Post κs) (lent x octets, (data_of octet behind link, tt)) (Octets many) changed
+      → RuledOutWith (λ s. get_or s.0.now 10 0) (write.Post κs) (lent_mut x octets, (data_of octet behind link, tt)) (Octets many) changed
   unfolding left_of reply_octets reply_frame f.written f.start_with f.body_of low_octets octets_of
   write_behind octet changed behind link many room n s e p =
       n (cc (ap (λ (l : List ℕ). get_or l 10 0) (rw (le-ltb (length octets) 261 room) at p.left_so), get_or-drop 10 octets 0 0))
 
   -- a data reply of one user octet with the length of one that has none
   write_users : (octet : ℕ) (behind : List ℕ) (link : LinkAddress) → 261 ≤ length octets
-      → RuledOut (write.Post κs) (lent x octets, (data_of octet behind link, tt)) (Octets 9)
+      → RuledOut (write.Post κs) (lent_mut x octets, (data_of octet behind link, tt)) (Octets 9)
   unfolding answer_to reply_octets reply_frame f.written f.start_with f.body_of low_octets octets_of
   write_users octet behind link room s p =
       omega (arith, ap (λ (r : Written). get_or (written_says r).values 0 0) (rw (le-ltb (length octets) 261 room) at p.answers))
 
   -- a data reply without user octets that has another length than 9
   write_none : (kept : List ℕ) (link : LinkAddress) (many : ℕ) → 261 ≤ length octets → (many ≡ 9 → ⊥)
-      → RuledOut (write.Post κs) (lent x octets, (data_with kept 0 link, tt)) (Octets many)
+      → RuledOut (write.Post κs) (lent_mut x octets, (data_with kept 0 link, tt)) (Octets many)
   unfolding answer_to reply_octets reply_frame f.written f.start_with f.body_of low_octets octets_of
   write_none kept link many room n s p =
       n (cc (ap (λ (r : Written). get_or (written_says r).values 0 0) (rw (le-ltb (length octets) 261 room) at p.answers)))
 
   -- more user octets than are kept, where their number is over 252
   write_over : (link : LinkAddress) → 261 ≤ length octets
-      → RuledOut (write.Post κs) (lent x octets, (data_with (replicate 252 1) 255 link, tt)) (Octets 264)
+      → RuledOut (write.Post κs) (lent_mut x octets, (data_with (replicate 252 1) 255 link, tt)) (Octets 264)
   unfolding answer_to reply_octets reply_frame f.written f.start_with f.body_of low_octets octets_of
   write_over link room s p =
       omega (arith, ap (λ (r : Written). get_or (written_says r).values 0 0) (rw (le-ltb (length octets) 261 room) at p.answers))

@@ -2,7 +2,7 @@
 -- Assumes nothing.
 use Rattle.std.specs.Prelude.{ℕ, Bool, true, false, not, ◌&&◌, [], ◌==◌}
 use Rattle.octets.specs.Bits.{bits◌to◌of◌}
-use Rattle.octets.specs.First.{When, ◌⇒◌▸◌, first_of◌else◌}
+use Rattle.octets.specs.First.{◌⇒◌▸◌, first_of◌else◌}
 use Rattle.frame.specs.declared.Form.{Form}
 use Rattle.frame.specs.declared.Form.TheVariants.{Fixed, Variable}
 use Rattle.frame.specs.declared.Service.{Service}

@@ -5,7 +5,7 @@ use Rattle.octets.specs.Choice.{if◌then◌else◌}
 use Rattle.octets.specs.Conditions.{holds}
 use Rattle.octets.specs.Numbers.{low_first, low_octets}
 use Rattle.octets.specs.Sum.{checksum}
-use Rattle.octets.specs.First.{When, ◌⇒◌▸◌, first_of◌else◌}
+use Rattle.octets.specs.First.{◌⇒◌▸◌, first_of◌else◌}
 use Rattle.frame.specs.declared.Fault.{Fault}
 use Rattle.frame.specs.declared.Fault.TheVariants.{Empty, Long, Parity, Malformed, Spoiled}
 use Rattle.frame.specs.Family.{Family}
@@ -45,7 +45,7 @@ module _ (k : Family) where
   unfoldable pub variable_form : List ℕ → Bool
   variable_form run =
       holds
-      (length run == slice_index run 1 + 6
+      ((length run == slice_index run 1 + 6)
       ∷ nat_le k.least (slice_index run 1)
       ∷ (slice_index run 0 == 0x68)
       ∷ (slice_index run 2 == slice_index run 1)

@@ -1,3 +1,4 @@
+#![tactic(auto)]
 // The two profiles of the line: ten bits without parity, and eleven with an even parity bit.
 ghost use Rattle.std.specs.Prelude.{◌≡◌};
 ghost use Rattle.profile.specs.Character.{low_bits, ones, even_parity, rightly};

@@ -24,10 +24,8 @@ link_at-requires c = omega (arith, (fixed_facts sapr _ (told c.fixed_form.ensure
 
 pub returns-then-sum_right : goal.returns-then-sum_right
 returns-then-sum_right c =
-    let summed = c in
-    let formed = summed.before.before in
     says_fixed _ (search rules) (search rules) _
-    (told formed.before.fixed-form.ensures formed.if3.true) (told summed.before.sum-right.ensures summed.if4.true) c.link_at.ensures
+    (told c.fixed_form.ensures c.if-fixed_form.true) (told c.sum_right.ensures c.if-sum_right.true) c.link_at.ensures
 
 pub returns-then-fixed_form : goal.returns-then-fixed_form
 returns-then-fixed_form c = says_spoiled_fixed _ (search rules) (search rules) (told c.fixed_form.ensures c.if-fixed_form.true) (told c.sum_right.ensures c.if-sum_right.false)
@@ -42,25 +40,17 @@ pub link_at-requires-then-sum_right-2 : goal.link_at-requires-then-sum_right-2
 link_at-requires-then-sum_right-2 c = let h = variable_facts sapr _ (told c.variable_form.ensures c.if-variable_form.true) in omega (arith, h.long, h.least)
 
 pub overflow_sub-result : goal.overflow_sub-result
-overflow_sub-result c =
-    let formed = c in
-    let h = variable_facts sapr _ (told formed.before.variable-form.ensures formed.if5.true) in
-    omega (arith, h.long, h.least)
+overflow_sub-result c = let h = variable_facts sapr _ (told c.variable_form.ensures c.if-variable_form.true) in omega (arith, h.long, h.least)
 
 pub returns-then-sum_right-2 : goal.returns-then-sum_right-2
 returns-then-sum_right-2 c =
-    let summed = c in
-    let formed = summed.before.before in
-    let other = formed.before.before in
-    says_variable _ (search rules) (search rules) _ _ (told other.before.fixed-form.ensures other.if3.false)
-    (told formed.before.variable-form.ensures formed.if5.true) (told summed.before.sum-right2.ensures summed.if6.true) c.link_at-then-sum_right-2.ensures refl
+    says_variable _ (search rules) (search rules) _ _ (told c.fixed_form.ensures c.if-fixed_form.false)
+    (told c.variable_form.ensures c.if-variable_form.true) (told c.sum_right-then-variable_form.ensures c.if-sum_right-2.true) c.link_at-then-sum_right-2.ensures refl
 
 pub returns-then-variable_form : goal.returns-then-variable_form
 returns-then-variable_form c =
-    let formed = c in
-    let other = formed.before.before in
-    says_spoiled_variable _ (search rules) (search rules) (told other.before.fixed-form.ensures other.if3.false)
-    (told formed.before.variable-form.ensures formed.if5.true) (told c.sum_right-then-variable_form.ensures c.if-sum_right-2.false)
+    says_spoiled_variable _ (search rules) (search rules) (told c.fixed_form.ensures c.if-fixed_form.false)
+    (told c.variable_form.ensures c.if-variable_form.true) (told c.sum_right-then-variable_form.ensures c.if-sum_right-2.false)
 
 pub returns : goal.returns
 returns c = rw (judge_malformed sapr _ (search rules) (search rules) (told c.fixed_form.ensures c.if-fixed_form.false) (told c.variable_form.ensures c.if-variable_form.false))

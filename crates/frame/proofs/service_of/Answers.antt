@@ -1,6 +1,5 @@
 -- `service_of` answers what a control field asks for.
 -- By the form. Assumes nothing.
-use Rattle.std.proofs.Common.{rules}
 use Rattle.frame.proofs.service_of.Goals as goal
 
 pub returns-in-Fixed : goal.returns-in-Fixed

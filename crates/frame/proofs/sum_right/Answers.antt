@@ -1,6 +1,6 @@
 -- `sum_right` answers whether the checksum is that of what it covers.
 -- The part that is summed is what stands between start and checksum. Assumes nothing.
-use Rattle.std.proofs.Common.{◌≡◌, ◌+◌, ◌-◌, length, arith, rules}
+use Rattle.std.proofs.Common.{◌≡◌, ◌+◌, ◌-◌, length, arith}
 use Rattle.frame.specs.Frame.{sum_right}
 use Rattle.frame.proofs.sum_right.Goals as goal
 

@@ -1,7 +1,6 @@
 -- `variable_head` gives the octets 68 L L 68 C A A.
 -- By the law of these octets. Assumes nothing.
 use Rattle.frame.proofs.Writing.{head_octets}
-use Rattle.std.proofs.Common.{rules}
 use Rattle.frame.proofs.variable_head.Goals as goal
 
 pub returns : goal.returns

@@ -1,6 +1,5 @@
 -- `Reply::plain` answers a reply without user octets.
 -- No octets are kept. Assumes nothing.
-use Rattle.std.proofs.Common.{rules}
 use Rattle.frame.proofs.Reply.plain.Goals as goal
 
 pub returns : goal.returns
