@@ -1,7 +1,7 @@
 // Whether octets are UTF-8 as RFC 3629 has it: no form longer than needed, no surrogate, nothing over U+10FFFF.
 
 // What has to stand next. After some first octets the second has a narrower range than the others.
-#[derive(Drop)]
+#[derive(Clone, Copy)]
 enum Next {
     First,
     Last,

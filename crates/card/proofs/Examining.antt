@@ -9,7 +9,7 @@ use native.Mathlib.Decide.{ℕ_discrete}
 use borrow.Author.Tests.{lt-ltb, le-ltb}
 use lib.Dec.{ltb}
 use lib.ListN.{length, take, drop}
-use Rattle.octets.specs.Choice.{if◌then◌else◌}
+use Rattle.octets.specs.Choice.{when◌then◌else◌}
 use Rattle.frame.specs.declared.Fault.{Fault}
 use Rattle.frame.specs.declared.Fault.TheVariants.{Empty, Long, Parity}
 use Rattle.frame.specs.declared.Service.{Service}
@@ -37,12 +37,12 @@ module _ (image : List ℕ) (c : Collector) where
   unfolding examined verdict_of is_overfull run_of
   run_examined run h unmarked e = rw (le-ltb 261 c.length h, e, unmarked, unmarked_judged sapr (take c.length c.octets))
 
-  pub marked_examined : (fault : Fault) → c.length ≤ 261 → length c.octets ≡ 261 → c.marked ≡ true → fault ≡ (if ltb 0 c.length then Parity else Empty)
+  pub marked_examined : (fault : Fault) → c.length ≤ 261 → length c.octets ≡ 261 → c.marked ≡ true → fault ≡ (when ltb 0 c.length then Parity else Empty)
       → no_frame (Faulty fault) ≡ examined c image
   unfolding examined
   marked_examined fault h whole marked e = rw e (by_length (ℕ_discrete c.length 0))
     where
-      by_length : Dec (c.length ≡ 0) → no_frame (Faulty (if ltb 0 c.length then Parity else Empty)) ≡ examined c image
+      by_length : Dec (c.length ≡ 0) → no_frame (Faulty (when ltb 0 c.length then Parity else Empty)) ≡ examined c image
       by_length (yes none) = rw (le-ltb 0 c.length (omega arith), empty_verdict sapr c none)
       by_length (no some) = rw (lt-ltb 0 c.length (omega arith), marked_verdict sapr c (omega arith) h whole marked)
 

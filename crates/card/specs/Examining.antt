@@ -1,7 +1,7 @@
 -- A run examined. Document 01, "What a gap answers", 1 to 6, and 10 between 2 and 3: empty, over 261 octets, a parity bit wrong, not the form of a frame,
 -- checksum wrong, other link address, control field not offered; or a sound frame for this card, and what it asks. Assumes nothing.
 use Rattle.std.specs.Prelude.{ℕ, Bool, false, not, List, []}
-use Rattle.octets.specs.Choice.{if◌then◌else◌}
+use Rattle.octets.specs.Choice.{when◌then◌else◌}
 use Rattle.octets.specs.Keeping.{kept_of}
 use Rattle.address.specs.declared.LinkAddress.{LinkAddress}
 use Rattle.address.specs.Address.{same_link}
@@ -38,7 +38,7 @@ heard (asked.Is service) user = record { finding = Asks service; user = kept_of 
 -- 5 other link address
 unfoldable pub examined_frame : List ℕ → Form → ℕ → LinkAddress → List ℕ → Examined
 examined_frame image form control link user =
-    if not (is_link (identity_found image) link) then no_frame OtherLink else heard (offered form control) user
+    when not (is_link (identity_found image) link) then no_frame OtherLink else heard (offered form control) user
 
 -- 1, 2, 10, 3, 4; or a sound frame
 abbrev pub examined_verdict : List ℕ → Verdict → Examined

@@ -1,7 +1,7 @@
 -- The card's state: one function for each part that changes. This is the one file in which the record is spelled.
 -- Assumes nothing.
 use Rattle.std.specs.Prelude.{ℕ, List, [], ◌∷◌}
-use Rattle.octets.specs.Choice.{if◌then◌else◌}
+use Rattle.octets.specs.Choice.{when◌then◌else◌}
 use Rattle.frame.specs.declared.Fault.{Fault}
 use Rattle.profile.specs.declared.Profile.{Profile}
 use Rattle.profile.specs.declared.Profile.TheVariants.{Ten}
@@ -43,4 +43,4 @@ left_with link card = record { collector = emptied; link = link; damaged = card.
 
 -- a run that is no sound frame: a damaged one is gone and counted; an empty one changes nothing
 unfoldable pub damaged_by : Fault → Card → Card
-damaged_by fault card = if damages fault then record { collector = emptied; link = card.link; damaged = one_more card.damaged } else card
+damaged_by fault card = when damages fault then record { collector = emptied; link = card.link; damaged = one_more card.damaged } else card

@@ -1,7 +1,7 @@
 // The card: its state, a character, a run examined, a gap.
 ghost use Rattle.std.specs.Prelude.{◌≤◌, ◌≡◌, ltb, length};
 ghost use Rattle.octets.specs.Over.{laid_in, Does};
-ghost use Rattle.octets.specs.Choice.{if◌then◌else◌};
+ghost use Rattle.octets.specs.Choice.{when◌then◌else◌};
 ghost use Rattle.frame.specs.declared.Fault.TheVariants.{Empty, Parity};
 ghost use Rattle.frame.specs.Family.{sapr};
 ghost use Rattle.frame.specs.Frame.{judge};
@@ -22,7 +22,7 @@ use octets::Kept;
 use profile::Character;
 
 // The octets since the last gap, the link with its session, the count of damaged runs.
-#[derive(Drop)]
+#[derive(Clone, Copy)]
 pub struct Card {
     pub collector: Collector,
     pub link: Link,
@@ -30,7 +30,7 @@ pub struct Card {
 }
 
 // What a gap returns: document 01's number, how many octets the reply has, an order to the meter with its time octets, the card after it.
-#[derive(Drop)]
+#[derive(Clone, Copy)]
 pub struct Gone {
     pub number: u8,
     pub length: u16,
@@ -49,7 +49,7 @@ pub enum Finding {
 }
 
 // A finding, and the user octets of a frame that is to be answered.
-#[derive(Drop)]
+#[derive(Clone, Copy)]
 pub struct Examined {
     pub finding: Finding,
     pub user: Kept,
@@ -71,7 +71,7 @@ fn examine(collector: Collector, image: &[u8]) -> Examined
 
 // What a marked run of so many octets is: an empty one is empty, as without the mark.
 fn fault_of_marked(length: u16) -> Fault
-    ensures { result ≡ (if ltb 0 length then Parity else Empty) }
+    ensures { result ≡ (when ltb 0 length then Parity else Empty) }
 {
     if 0 < length {
         return Fault::Parity;

@@ -7,7 +7,7 @@ use mathlib.Core.Path.{◌≡◌, refl, ap, sym, ◌∙◌}
 use native.Mathlib.Omega.{arith}
 use lib.Dec.{leb, eqb}
 use lib.ListN.{length, get_or}
-use Rattle.octets.specs.Choice.{if◌then◌else◌}
+use Rattle.octets.specs.Choice.{when◌then◌else◌}
 use Rattle.octets.proofs.Choice.{either}
 use Rattle.octets.proofs.Conditions.{and_left, and_right}
 use Rattle.records.specs.Records.{length_of, kind_of, whole_at, record_at, records_from, place_after}
@@ -74,8 +74,8 @@ follow {image} {from} f at (one {rs = rs} e l) n p = by_test (λ m q. rw (after_
     rest = places_of f (from + length (record_at image from)) rs
 
     by_test : ((m : ℕ) → nth_place m rest ≡ At at → nth_place 0 (places_of f (place_after image at) (records_from image (place_after image at))) ≡ nth_place (suc m) rest)
-        → (t : Bool) (n : ℕ) → nth_place n (if t then from ∷ rest else rest) ≡ At at
-        → nth_place 0 (places_of f (place_after image at) (records_from image (place_after image at))) ≡ nth_place (suc n) (if t then from ∷ rest else rest)
+        → (t : Bool) (n : ℕ) → nth_place n (when t then from ∷ rest else rest) ≡ At at
+        → nth_place 0 (places_of f (place_after image at) (records_from image (place_after image at))) ≡ nth_place (suc n) (when t then from ∷ rest else rest)
     by_test go true zero p =
         let same : at ≡ from = cc in
         rw (same, ← (lie_is l), after_whole image from e)
@@ -96,7 +96,7 @@ readings_alone image image' same span =
 
 -- records that are not another point's: of kinds 1 to 3, or of the point
 unfoldable pub not_of_others : ℕ → List ℕ → Bool
-not_of_others point r = if leb 4 (kind_of r) then eqb (point_of r) point else true
+not_of_others point r = when leb 4 (kind_of r) then eqb (point_of r) point else true
 
 pub readings_of_point : (span : Span) (r : List ℕ) → chosen (Reading span) r ≡ true → not_of_others span.point.0 r ≡ true
 unfolding chosen in_span not_of_others

@@ -9,7 +9,7 @@ use borrow.Author.Tests.{eqb-true, leb-true, leb-false, le-leb, lt-leb}
 use lib.Dec.{leb, eqb, leb-zero}
 use lib.IntN.{ℤ, pos, negsuc, suc_ℤ}
 use lib.Signed.{le_z}
-use Rattle.octets.specs.Choice.{if◌then◌else◌}
+use Rattle.octets.specs.Choice.{when◌then◌else◌}
 use Rattle.octets.proofs.Choice.{not_both, refuted}
 use Rattle.octets.proofs.Conditions.{and_left, and_right}
 use Rattle.label.specs.Label.{instant}
@@ -79,7 +79,7 @@ keep_split f g h both apart behind (r ∷ rs) l =
     by_tests (keep_split f g h both apart behind rs (linked_tail in_order r rs l)) (g r) (h r) refl refl
   where
     by_tests : keep f rs ≡ keep g rs ++ keep h rs → (t u : Bool) → g r ≡ t → h r ≡ u
-        → (if f r then r ∷ keep f rs else keep f rs) ≡ (if t then r ∷ keep g rs else keep g rs) ++ (if u then r ∷ keep h rs else keep h rs)
+        → (when f r then r ∷ keep f rs else keep f rs) ≡ (when t then r ∷ keep g rs else keep g rs) ++ (when u then r ∷ keep h rs else keep h rs)
     by_tests rest true true p q = absurd (not_both (apart r p) q)
     by_tests rest true false p q = rw (both r, p) (ap (r ∷◌) rest)
     by_tests rest false true p q =

@@ -2,7 +2,7 @@
 -- marks the run; its octet counts.
 -- Assumes nothing.
 use Rattle.std.specs.Prelude.{ℕ, ◌+◌, Bool, false, not, ◌||◌, List, ltb, take, set, replicate}
-use Rattle.octets.specs.Choice.{if◌then◌else◌}
+use Rattle.octets.specs.Choice.{when◌then◌else◌}
 use Rattle.frame.specs.declared.Fault.TheVariants.{Long}
 use Rattle.frame.specs.Family.{Family}
 use Rattle.frame.specs.Frame.{Verdict, refused}
@@ -24,7 +24,7 @@ is_overfull c = ltb 261 c.length
 -- a character is put in: its octet, and a mark where its parity bit is wrong
 unfoldable pub collected_in : (p : Profile) → Collector → CharacterIn p → Collector
 collected_in p c x =
-    if ltb c.length 261
+    when ltb c.length 261
     then record { octets = set c.octets c.length (octet_in p x); length = c.length + 1; marked = not (right_in p x) || c.marked }
     else overfull
 
@@ -38,4 +38,4 @@ run_of c = take c.length c.octets
 
 -- what the run in a collector is, in a family of frames
 unfoldable pub verdict_of : Family → Collector → Verdict
-verdict_of k c = if is_overfull c then refused Long else judge_marked k c.marked (run_of c)
+verdict_of k c = when is_overfull c then refused Long else judge_marked k c.marked (run_of c)

@@ -1,7 +1,7 @@
 -- What is given next of the chosen records that are left: one reading, or up to 27 events, and how many these are.
 -- Assumes nothing.
 use Rattle.std.specs.Prelude.{ℕ, List, [], ◌∷◌, length, take, drop}
-use Rattle.octets.specs.Choice.{if◌then◌else◌}
+use Rattle.octets.specs.Choice.{when◌then◌else◌}
 use Rattle.choice.specs.declared.Span.{Span}
 use Rattle.choice.specs.declared.Query.TheVariants.{Reading, Event}
 use Rattle.choice.specs.Choice.{choice}
@@ -29,7 +29,7 @@ events_portion span (r ∷ rs) =
 -- so many of the chosen are given already; of objects that are not offered, which no accepted request asks for, nothing is given
 unfoldable pub next_reading : ℕ → Span → ObjectRange → List ℕ → ℕ → Portion
 next_reading type span objects image before =
-    if objects_offered objects then reading_portion type span objects (drop before (choice (Reading span) image)) else portion [] 0
+    when objects_offered objects then reading_portion type span objects (drop before (choice (Reading span) image)) else portion [] 0
 
 unfoldable pub next_events : Span → List ℕ → ℕ → Portion
 next_events span image before = events_portion span (drop before (choice (Event span) image))

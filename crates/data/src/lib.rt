@@ -17,7 +17,7 @@ use message::{Header, ObjectRange};
 use octets::Kept;
 
 // A message, and how many of the chosen records it has; none, and no octets, when no record is left.
-#[derive(Drop)]
+#[derive(Clone, Copy)]
 pub struct Portion {
     pub message: Kept,
     pub many: usize,

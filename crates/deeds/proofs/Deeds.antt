@@ -10,7 +10,7 @@ use borrow.Author.Tests.{eq-eqb, eqb-true, leb-true}
 use lib.Dec.{eqb, leb}
 use lib.ListN.{length, take, drop, replicate, length-drop}
 use lib.Seq.{take_all}
-use Rattle.octets.specs.Choice.{if◌then◌else◌}
+use Rattle.octets.specs.Choice.{when◌then◌else◌}
 use Rattle.octets.proofs.Outcome.{determined}
 use Rattle.message.specs.declared.Deed.{Deed}
 use Rattle.message.specs.declared.Deed.TheVariants.{Refused, ShutOut, Opens, Closes, SetsClock, SetsDates}
@@ -37,7 +37,7 @@ use Rattle.deeds.specs.Calls.{time_octets}
 
 -- the order with so many time octets
 by_octets : ℕ → Order
-by_octets many = if eqb many 0 then NoOrder else if eqb many 7 then SetClock else SetDates
+by_octets many = when eqb many 0 then NoOrder else when eqb many 7 then SetClock else SetDates
 
 octets_back : (order : Order) → by_octets (time_octets order) ≡ order
 unfolding by_octets

@@ -1,7 +1,7 @@
 -- What a message does when it is carried out: the session, the order to the meter, what waits. Document 01, the table and "183: ..".
 -- Assumes nothing.
 use Rattle.std.specs.Prelude.{ℕ, Bool, true, false, List, [], ◌++◌, replicate}
-use Rattle.octets.specs.Choice.{if◌then◌else◌}
+use Rattle.octets.specs.Choice.{when◌then◌else◌}
 use Rattle.octets.specs.declared.Kept.{Kept}
 use Rattle.octets.specs.Keeping.{octets_of, kept_of}
 use Rattle.label.specs.Label.{label_a_octets, label_b_octets}
@@ -32,7 +32,7 @@ deed_of rule row.Nothing = deed_by rule Refused
 
 -- the mirror of a rule's cause and P/N
 abbrev pub mirror_by : Rule → Waiting
-mirror_by rule = if pn_by rule then Denied else Mirror (cause_by rule)
+mirror_by rule = when pn_by rule then Denied else Mirror (cause_by rule)
 
 -- what is done: the session, and what waits behind it, without an order and without the clock; or mirror 7 and an order with the request's time octets
 abbrev pub leaving : Session → Waiting → Done

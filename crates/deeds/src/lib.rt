@@ -11,7 +11,7 @@ use octets::Kept;
 use rules::{Rule, Session};
 
 // What is given next. The octets of the request stand beside it.
-#[derive(Drop)]
+#[derive(Clone, Copy)]
 pub enum Waiting {
     NoReply,
     // A mirror with a cause and P/N 0; one with cause 7 and P/N 1.
@@ -34,7 +34,7 @@ pub enum Order {
 }
 
 // What waits, with the request and the clock that was taken for 103.
-#[derive(Drop)]
+#[derive(Clone, Copy)]
 pub struct Pending {
     pub waiting: Waiting,
     pub request: Kept,
@@ -42,7 +42,7 @@ pub struct Pending {
 }
 
 // A message carried out: the rule that applied, what it did, the session after it, an order to the meter with its time octets, what waits.
-#[derive(Drop)]
+#[derive(Clone, Copy)]
 pub struct Carried {
     pub rule: Rule,
     pub deed: Deed,
@@ -53,7 +53,7 @@ pub struct Carried {
 }
 
 // What is done: the session after it, an order with its time octets, what waits, the clock that is taken.
-#[derive(Drop)]
+#[derive(Clone, Copy)]
 struct Done {
     session: Session,
     order: Order,

@@ -6,7 +6,7 @@ use stream::{Texts, Window};
 
 // What is kept between two calls beside the image's space and the reply buffer: what is held, how many octets of the image's space count, and
 // what has been read of the calls to come; and whether another may follow.
-#[derive(Drop)]
+#[derive(Clone, Copy)]
 struct Bench {
     held: Held,
     image: usize,

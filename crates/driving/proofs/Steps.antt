@@ -8,7 +8,7 @@ use native.Mathlib.Omega.{arith}
 use borrow.Author.Tests.{le-leb}
 use lib.ListN.{length, take, drop, length-append, length-take, length-drop}
 use lib.Seq.{take-nil, take-append_seam}
-use Rattle.octets.specs.Choice.{if◌then◌else◌}
+use Rattle.octets.specs.Choice.{when◌then◌else◌}
 use Rattle.octets.specs.Over.{laid_in}
 use Rattle.octets.specs.Calls.{fits_at}
 use Rattle.octets.proofs.Choice.{if_both}
@@ -53,7 +53,7 @@ steps_same (suc fuel) (suc other) b rest h k =
 pub steps_next : (b : Bench) (rest : List ℕ)
     → steps_text (length rest) b rest
     ≡ (call_step b (first_call b.profile rest)).text
-    ++ (if (call_step b (first_call b.profile rest)).more then steps_text (length (behind_call b.profile rest)) (call_step b (first_call b.profile rest)).bench (behind_call b.profile rest) else [])
+    ++ (when (call_step b (first_call b.profile rest)).more then steps_text (length (behind_call b.profile rest)) (call_step b (first_call b.profile rest)).bench (behind_call b.profile rest) else [])
 unfolding steps_text
 steps_next b rest =
     let s = call_step b (first_call b.profile rest) in

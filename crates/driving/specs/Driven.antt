@@ -1,7 +1,7 @@
 -- What the driving program writes for a whole input: octets in, octets out, call after call. second/README.md, "The driving face".
 -- Assumes nothing.
 use Rattle.std.specs.Prelude.{ℕ, zero, suc, Bool, true, false, List, [], ◌∷◌, ◌++◌, length, take, drop, replicate}
-use Rattle.octets.specs.Choice.{if◌then◌else◌}
+use Rattle.octets.specs.Choice.{when◌then◌else◌}
 use Rattle.octets.specs.Over.{laid_in}
 use Rattle.profile.specs.declared.Profile.{Profile}
 use Rattle.profile.specs.declared.Profile.TheVariants.{Ten, Eleven}
@@ -126,7 +126,7 @@ unfoldable pub steps_text : ℕ → Bench → List ℕ → List ℕ
 steps_text zero b rest = []
 steps_text (suc fuel) b rest =
     let s = call_step b (first_call b.profile rest) in
-    s.text ++ (if s.more then steps_text fuel s.bench (behind_call b.profile rest) else [])
+    s.text ++ (when s.more then steps_text fuel s.bench (behind_call b.profile rest) else [])
 
 -- all that is written
 unfoldable pub driven : List ℕ → List ℕ

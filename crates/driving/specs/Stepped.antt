@@ -1,7 +1,7 @@
 -- What the functions that do a call return, and what they leave of the image's space, the reply buffer and the buffer for the text.
 -- Assumes nothing.
 use Rattle.std.specs.Prelude.{ℕ, Bool, true, false, ◌&&◌, List, [], ◌≡◌, length}
-use Rattle.octets.specs.Choice.{if◌then◌else◌}
+use Rattle.octets.specs.Choice.{when◌then◌else◌}
 use Rattle.octets.specs.Over.{laid_in, Does}
 use Rattle.octets.specs.Calls.{fits_at}
 use Rattle.profile.specs.declared.Profile.{Profile}
@@ -61,4 +61,4 @@ is_image call.Why = false
 abbrev pub ImageAfter : Call → List ℕ → ℕ → List ℕ → ℕ → List ℕ → Type 0
 ImageAfter call space had image r left =
     let comes = is_image call && fits_at space 0 image in
-    Does (if comes then length image else had) (if comes then laid_in space image else space) r left
+    Does (when comes then length image else had) (when comes then laid_in space image else space) r left

@@ -17,7 +17,7 @@ use octets::Kept;
 use profile::{Character, Profile};
 
 // What is held between two calls: the profile, the card, the clock, how many octets of the reply buffer a gap is lent.
-#[derive(Drop)]
+#[derive(Clone, Copy)]
 pub struct Held {
     pub profile: Profile,
     pub card: Card,
@@ -26,7 +26,7 @@ pub struct Held {
 }
 
 // What a call leaves: how many octets its text has, what is held, whether another may follow.
-#[derive(Drop)]
+#[derive(Clone, Copy)]
 pub struct Left {
     pub count: usize,
     pub held: Held,

@@ -13,14 +13,14 @@ use profile::{Character, Profile};
 use rules::Session;
 
 // What is lent to the card with every gap: how many octets the image has, the clock, how many octets the reply buffer has.
-#[derive(Drop)]
+#[derive(Clone, Copy)]
 pub struct Lent {
     pub image: usize,
     pub clock: [u8; 7],
     pub buffer: usize,
 }
 
-#[derive(Drop)]
+#[derive(Clone, Copy)]
 pub struct Bench {
     pub card: Card,
     pub profile: Profile,

@@ -155,7 +155,7 @@ fn done(bench: Bench, request: Request, line: &[u8], given: &[u8], shelf: &mut [
 }
 
 // The bench, the request that the last line belongs to, what is read of the lines to come, and whether any is left.
-#[derive(Drop)]
+#[derive(Clone, Copy)]
 struct Desk {
     bench: Bench,
     request: Request,

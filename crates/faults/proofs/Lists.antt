@@ -8,7 +8,7 @@ use native.Mathlib.Omega.{arith}
 use borrow.Author.Tests.{ltb-true, lt-ltb}
 use lib.Dec.{ltb, leb}
 use lib.ListN.{length, length-append}
-use Rattle.octets.specs.Choice.{if◌then◌else◌}
+use Rattle.octets.specs.Choice.{when◌then◌else◌}
 use Rattle.octets.proofs.Conditions.{and_left, and_right}
 use Rattle.records.specs.Records.{kind_of}
 use Rattle.records.specs.Said.{every, linked, keep, how_many}
@@ -70,8 +70,8 @@ pub knows_more : (rs qs : List (List ℕ)) (r : List ℕ) → knows rs r ≡ tru
 unfolding knows
 knows_more rs qs r e = by_test (leb 4 (kind_of r)) e
   where
-    by_test : (t : Bool) → (if t then ltb 0 (how_many (is_point (point_of r)) rs) else true) ≡ true
-        → (if t then ltb 0 (how_many (is_point (point_of r)) (rs ++ qs)) else true) ≡ true
+    by_test : (t : Bool) → (when t then ltb 0 (how_many (is_point (point_of r)) rs) else true) ≡ true
+        → (when t then ltb 0 (how_many (is_point (point_of r)) (rs ++ qs)) else true) ≡ true
     by_test true h = lt-ltb 0 (how_many (is_point (point_of r)) (rs ++ qs)) (omega (arith, ltb-true 0 (how_many (is_point (point_of r)) rs) h, how_many_law (is_point (point_of r)) rs qs))
     by_test false h = refl
 

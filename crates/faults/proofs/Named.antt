@@ -4,7 +4,7 @@ use mathlib.Core.Bool.{Bool, true, false, not, ◌&&◌, false≢true}
 use mathlib.Core.List.{List, [], ◌∷◌}
 use mathlib.Core.Path.{◌≡◌, refl, ap}
 use borrow.Author.Tests.{not-true, not-false}
-use Rattle.octets.specs.Choice.{if◌then◌else◌}
+use Rattle.octets.specs.Choice.{when◌then◌else◌}
 use Rattle.octets.specs.Conditions.{holds}
 use Rattle.octets.specs.First.{When, ◌⇒◌▸◌, first_of◌else◌}
 use Rattle.octets.proofs.Choice.{either, not_both}
@@ -69,7 +69,7 @@ module _ {A : Type 0} where
   passes (rule ∷ rules) other h = by_test (passes rules other) rule.test h
     where
       by_test : (holds (fails rules) ≡ true → (first_of rules else other) ≡ other)
-          → (t : Bool) → (not t && holds (fails rules)) ≡ true → (if t then rule.gives else first_of rules else other) ≡ other
+          → (t : Bool) → (not t && holds (fails rules)) ≡ true → (when t then rule.gives else first_of rules else other) ≡ other
       by_test rest true h = absurd (false≢true h)
       by_test rest false h = rest h
 
@@ -89,7 +89,7 @@ module _ {A : Type 0} where
   named_first fault f (rule ∷ rules) none other z n = by_test (named_first fault f rules none other z) rule.test n
     where
       by_test : (fault (first_of rules else none) ≡ true → (first_of renamed f rules else other) ≡ f (first_of rules else none))
-          → (t : Bool) → fault (if t then rule.gives else first_of rules else none) ≡ true
-          → (if t then f rule.gives else first_of renamed f rules else other) ≡ f (if t then rule.gives else first_of rules else none)
+          → (t : Bool) → fault (when t then rule.gives else first_of rules else none) ≡ true
+          → (when t then f rule.gives else first_of renamed f rules else other) ≡ f (when t then rule.gives else first_of rules else none)
       by_test rest true n = refl
       by_test rest false n = rest n

@@ -10,7 +10,7 @@ use denote.Enum.Declared.{tag_of}
 use borrow.Author.Tests.{eqb-true, eqb-false, ltb-true, ltb-false, leb-true, leb-false, not-true, not-false, eq-eqb, ne_eqb, lt-ltb, le-ltb, le-leb, lt-leb}
 use lib.Dec.{ltb, leb, eqb}
 use lib.ListN.{length, get_or, drop, length-drop, length-take, get_or-eq_default}
-use Rattle.octets.specs.Choice.{if◌then◌else◌}
+use Rattle.octets.specs.Choice.{when◌then◌else◌}
 use Rattle.octets.specs.Conditions.{holds}
 use Rattle.octets.specs.First.{first_of◌else◌}
 use Rattle.octets.proofs.Choice.{refuted, not_both}
@@ -77,10 +77,10 @@ module _ (before : List (List ℕ)) (r : List ℕ) where
       at = holds_at (fails (own_rules r)) h
 
       by_kinds : (t u v w : Bool) → eqb (kind_of r) 2 ≡ t → eqb (kind_of r) 3 ≡ u → eqb (kind_of r) 4 ≡ v → eqb (kind_of r) 5 ≡ w
-          → (if t then leb 1 (point_of r) else
-          if u then valid_a (first_date r) && valid_a (second_date r) else
-          if v then reading_record (record_address r) && valid_a (reading_label r) else
-          if w then event_record (record_address r) && valid_b (event_label r) else
+          → (when t then leb 1 (point_of r) else
+          when u then valid_a (first_date r) && valid_a (second_date r) else
+          when v then reading_record (record_address r) && valid_a (reading_label r) else
+          when w then event_record (record_address r) && valid_b (event_label r) else
           true) ≡ true
       by_kinds true u v w e f g k =
           let some : point_of r ≡ 0 → ⊥ = eqb-false (point_of r) 0 (lapsed (is_kind 2 r) (eqb (point_of r) 0) (at 0) e) in
@@ -277,8 +277,8 @@ known_before : (before : List (List ℕ)) (r : List ℕ) (rs : List (List ℕ)) 
 unfolding knows
 known_before before r rs l e = by_test (leb 4 (kind_of r)) refl e
   where
-    by_test : (t : Bool) → leb 4 (kind_of r) ≡ t → (if t then ltb 0 (how_many (is_point (point_of r)) (before ++ (r ∷ rs))) else true) ≡ true
-        → (if t then ltb 0 (how_many (is_point (point_of r)) before) else true) ≡ true
+    by_test : (t : Bool) → leb 4 (kind_of r) ≡ t → (when t then ltb 0 (how_many (is_point (point_of r)) (before ++ (r ∷ rs))) else true) ≡ true
+        → (when t then ltb 0 (how_many (is_point (point_of r)) before) else true) ≡ true
     by_test true k h =
         let none = none_later (is_point (point_of r)) (points_2 (point_of r)) r rs l (omega (arith, leb-true 4 (kind_of r) k)) in
         lt-ltb 0 (how_many (is_point (point_of r)) before)

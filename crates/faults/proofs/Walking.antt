@@ -11,7 +11,7 @@ use borrow.Author.Tests.{eqb-true, eqb-false, leb-true, eq-eqb, ne_eqb, lt-ltb, 
 use lib.Dec.{ltb, leb, eqb}
 use lib.ListN.{length, get_or, take, drop, length-append, length-drop}
 use lib.Seq.{get_or-drop}
-use Rattle.octets.specs.Choice.{if◌then◌else◌}
+use Rattle.octets.specs.Choice.{when◌then◌else◌}
 use Rattle.octets.specs.First.{first_of◌else◌}
 use Rattle.octets.specs.Numbers.{high_first}
 use Rattle.octets.proofs.Choice.{if_both}
@@ -111,7 +111,7 @@ module _ (image : List ℕ) (before : List (List ℕ)) (walk : Walk) (s : Stage 
     point_there key k =
         rw (same_kind r key k, s.points_counted)
         (if_both (λ (x y : ImageRule). x ≡ y) (is_kind 2 r && leb 8 n) (λ t. refl) (λ t.
-        if_both (λ (x y : ImageRule). x ≡ y) (leb 3 (kind_of r) && eqb n 0) (λ u. refl) (λ u. ap (λ (v : Bool). if v then UnknownPoint else NoFault) (last_test u))))
+        if_both (λ (x y : ImageRule). x ≡ y) (leb 3 (kind_of r) && eqb n 0) (λ u. refl) (λ u. ap (λ (v : Bool). when v then UnknownPoint else NoFault) (last_test u))))
       where
         n : ℕ
         n = how_many (is_kind 2) before
@@ -167,7 +167,7 @@ module _ (image : List ℕ) (before : List (List ℕ)) (walk : Walk) (s : Stage 
     unfolding further
     points_further = rw (kind_whole image walk.at w ∙ sym (kind_there image walk.at w)) (by_test (is_kind 2 r) refl)
       where
-        by_test : (t : Bool) → is_kind 2 r ≡ t → (if t then walk.points + 1 else walk.points) ≡ how_many (is_kind 2) more
+        by_test : (t : Bool) → is_kind 2 r ≡ t → (when t then walk.points + 1 else walk.points) ≡ how_many (is_kind 2) more
         by_test true e = omega (arith, s.points_counted, how_many_law (is_kind 2) before (r ∷ []), one_more (is_kind 2) r e)
         by_test false e = omega (arith, s.points_counted, how_many_law (is_kind 2) before (r ∷ []), no_more (is_kind 2) r e)
 

@@ -9,7 +9,7 @@ use native.Mathlib.Omega.{arith}
 use borrow.Author.Tests.{eqb-true, eq-eqb, ne_eqb}
 use lib.Dec.{eqb}
 use lib.ListN.{length, get_or, take, drop, length-take}
-use Rattle.octets.specs.Choice.{if◌then◌else◌}
+use Rattle.octets.specs.Choice.{when◌then◌else◌}
 use Rattle.octets.specs.Numbers.{high_first}
 use Rattle.octets.proofs.Lists.{octets_at, part_at}
 use Rattle.octets.proofs.Numbers.{Octets, octets_take, octets_drop, high_bound}
@@ -67,9 +67,9 @@ unfolding key_of
 key_kind r = by_tests (eqb (kind_of r) 2) (eqb (kind_of r) 4) (eqb (kind_of r) 5) refl refl refl
   where
     by_tests : (t u v : Bool) → eqb (kind_of r) 2 ≡ t → eqb (kind_of r) 4 ≡ u → eqb (kind_of r) 5 ≡ v
-        → (if t then key 2 (point_of r) 0 no_label else
-        if u then key 4 (point_of r) (record_address r) (at_minute (reading_label r)) else
-        if v then key 5 (point_of r) (record_address r) (event_label r) else
+        → (when t then key 2 (point_of r) 0 no_label else
+        when u then key 4 (point_of r) (record_address r) (at_minute (reading_label r)) else
+        when v then key 5 (point_of r) (record_address r) (event_label r) else
         key (kind_of r) 0 0 no_label).kind ≡ kind_of r
     by_tests true u v e f g = sym (eqb-true (kind_of r) 2 e)
     by_tests false true v e f g = sym (eqb-true (kind_of r) 4 f)

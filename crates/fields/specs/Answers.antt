@@ -2,7 +2,7 @@
 -- Assumes nothing.
 use Rattle.std.specs.Prelude.{ℕ, ◌+◌, Bool, eqb, length}
 use mathlib.Core.List.{List, [], ◌∷◌, flatten}
-use Rattle.octets.specs.Choice.{if◌then◌else◌}
+use Rattle.octets.specs.Choice.{when◌then◌else◌}
 use Rattle.address.specs.declared.PointAddress.{PointAddress}
 use Rattle.records.specs.Records.{kind_at, record_at, records_from, place_after}
 use Rattle.fields.specs.declared.IdentityFound.{IdentityFound}
@@ -21,13 +21,13 @@ records_of image = records_from image 1
 unfoldable pub identity_found : List ℕ → IdentityFound
 identity_found image =
     let r = record_at image 1 in
-    if eqb (kind_at image 1) 1 then head.Is (record { link = record { 0 = link_of r }; date = date_of r; maker = maker_of r; product = product_of r }) else
+    when eqb (kind_at image 1) 1 then head.Is (record { link = record { 0 = link_of r }; date = date_of r; maker = maker_of r; product = product_of r }) else
     head.Nothing
 
 -- the records from the front on up to the first of which a test does not hold
 unfoldable pub leading : (List ℕ → Bool) → List (List ℕ) → List (List ℕ)
 leading f [] = []
-leading f (r ∷ rs) = if f r then r ∷ leading f rs else []
+leading f (r ∷ rs) = when f r then r ∷ leading f rs else []
 
 -- the points stand behind the first record, one after the other
 unfoldable pub points_from : List ℕ → ℕ → List (List ℕ)
@@ -40,7 +40,7 @@ points_of image = points_from image (place_after image 1)
 unfoldable pub point_in : ℕ → ℕ → List (List ℕ) → PointFound
 point_in address number [] = point.Nothing
 point_in address number (r ∷ rs) =
-    if eqb (point_of r) address then point.Is (record { number = number; password = password_of r }) else
+    when eqb (point_of r) address then point.Is (record { number = number; password = password_of r }) else
     point_in address (number + 1) rs
 
 unfoldable pub point_found : PointAddress → List ℕ → PointFound
@@ -50,7 +50,7 @@ point_found address image = point_in address.0 1 (points_of image)
 unfoldable pub dates_at : List ℕ → ℕ → DatesFound
 dates_at image at =
     let r = record_at image at in
-    if eqb (kind_at image at) 3 then dates.Is (record { first = first_date r; second = second_date r }) else
+    when eqb (kind_at image at) 3 then dates.Is (record { first = first_date r; second = second_date r }) else
     dates.Nothing
 
 -- those of the image stand behind the points

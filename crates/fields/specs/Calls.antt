@@ -1,7 +1,7 @@
 -- What this crate's own calls answer of one record at a place, or that there is none. The card's definition does without it.
 -- Assumes nothing.
 use Rattle.std.specs.Prelude.{ℕ, ◌&&◌, List, leb, eqb}
-use Rattle.octets.specs.Choice.{if◌then◌else◌}
+use Rattle.octets.specs.Choice.{when◌then◌else◌}
 use Rattle.records.specs.Records.{kind_at, record_at}
 use Rattle.fields.specs.declared.ValueFound.{ValueFound}
 use Rattle.fields.specs.declared.ValueFound.TheVariants as value
@@ -13,12 +13,12 @@ use Rattle.fields.specs.Parts.{value_of, quality_of, spa_of, spq_of, event_label
 unfoldable pub value_found : ℕ → List ℕ → ℕ → ValueFound
 value_found object image at =
     let r = record_at image at in
-    if eqb (kind_at image at) 4 && (leb 1 object && leb object 6) then value.Is (record { value = value_of object r; quality = quality_of object r }) else
+    when eqb (kind_at image at) 4 && (leb 1 object && leb object 6) then value.Is (record { value = value_of object r; quality = quality_of object r }) else
     value.Nothing
 
 -- the event at a place
 unfoldable pub event_found : List ℕ → ℕ → EventFound
 event_found image at =
     let r = record_at image at in
-    if eqb (kind_at image at) 5 then event.Is (record { spa = spa_of r; spq = spq_of r; label = event_label r }) else
+    when eqb (kind_at image at) 5 then event.Is (record { spa = spa_of r; spq = spq_of r; label = event_label r }) else
     event.Nothing

@@ -3,7 +3,7 @@
 use Rattle.std.proofs.Common.{◌≡◌, ℕ, ◌<◌, Bool, true, false, ◌||◌, eqb, List, [], ◌∷◌, get_or, refl}
 use mathlib.Core.Bool.{false≢true}
 use Rattle.octets.specs.Answer.{Answer}
-use Rattle.octets.specs.Choice.{if◌then◌else◌}
+use Rattle.octets.specs.Choice.{when◌then◌else◌}
 use Rattle.octets.proofs.Outcome.{determined}
 use Rattle.octets.proofs.Computed.{at_each}
 use Rattle.frame.specs.declared.Form.{Form}
@@ -44,10 +44,10 @@ variable_only c h n = not_offered _ (rw n at (at_each (only Variable (0x53 ∷ 0
 -- the paper's numbers determine what is asked for
 back : Answer → Asked
 back x =
-    if eqb x.number 6 then NotOffered else
-    if eqb (get_or x.values 0 0) 0 then Is Reset else
-    if eqb (get_or x.values 0 0) 3 then Is (UserData (get_or x.values 1 0)) else
-    if eqb (get_or x.values 0 0) 9 then Is Status else
+    when eqb x.number 6 then NotOffered else
+    when eqb (get_or x.values 0 0) 0 then Is Reset else
+    when eqb (get_or x.values 0 0) 3 then Is (UserData (get_or x.values 1 0)) else
+    when eqb (get_or x.values 0 0) 9 then Is Status else
     Is (Collection (get_or x.values 1 0))
 
 asked_back : (x : Asked) → back (asked_says x) ≡ x

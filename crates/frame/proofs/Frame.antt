@@ -3,7 +3,7 @@
 use Rattle.std.proofs.Common.{◌≡◌, ℕ, suc, ◌+◌, ◌-◌, ◌<◌, ◌≤◌, Bool, true, false, not, eqb, ltb, List, length, get_or, sym, refl, ◌∙◌, arith, ltb-false, ltb-true, le-ltb, lt-ltb, eq-eqb, ne_eqb, eqb-true, le-leb, leb-true}
 use mathlib.Core.Bool.{and-true}
 use borrow.Author.Tests.{eqb-false}
-use Rattle.octets.specs.Choice.{if◌then◌else◌}
+use Rattle.octets.specs.Choice.{when◌then◌else◌}
 use Rattle.octets.specs.Conditions.{holds}
 use Rattle.octets.specs.Sum.{checksum}
 use Rattle.octets.proofs.Choice.{refuted}
@@ -108,16 +108,16 @@ module _ (k : Family) (run : List ℕ) where
     judge_malformed f v = rw (ne_eqb _ _ some, le-ltb _ _ short, f, v)
 
     -- the sum decides, in either form
-    by_sum : (right : Bool) (x y : Verdict) → (if not right then y else x) ≡ (if right then x else y)
+    by_sum : (right : Bool) (x y : Verdict) → (when not right then y else x) ≡ (when right then x else y)
     by_sum true x y = refl
     by_sum false x y = refl
 
-    pub judge_fixed : fixed_form k run ≡ true → judge k run ≡ (if sum_right 1 run then sound (said_fixed k (covered 1 run)) else refused Spoiled)
+    pub judge_fixed : fixed_form k run ≡ true → judge k run ≡ (when sum_right 1 run then sound (said_fixed k (covered 1 run)) else refused Spoiled)
     unfolding judge start_of said
     judge_fixed f = rw (ne_eqb _ _ some, le-ltb _ _ short, f) (by_sum (sum_right 1 run) _ _)
 
     pub judge_variable : fixed_form k run ≡ false → variable_form k run ≡ true
-        → judge k run ≡ (if sum_right 4 run then sound (said_variable k (covered 4 run)) else refused Spoiled)
+        → judge k run ≡ (when sum_right 4 run then sound (said_variable k (covered 4 run)) else refused Spoiled)
     unfolding judge start_of said
     judge_variable f v = rw (ne_eqb _ _ some, le-ltb _ _ short, f, v) (by_sum (sum_right 4 run) _ _)
 
@@ -129,7 +129,7 @@ pub data Sound (k : Family) (run : List ℕ) (f : Frame) : Type 0 where
 pub never : {why : Fault} {f : Frame} → refused why ≡ sound f → ⊥
 never e = let z : ◌≡◌ {A = ℕ} 0 1 = cc in omega arith
 
-picked : (t : Bool) (x f : Frame) → (if t then sound x else refused Spoiled) ≡ sound f → (t ≡ true) × (f ≡ x)
+picked : (t : Bool) (x f : Frame) → (when t then sound x else refused Spoiled) ≡ sound f → (t ≡ true) × (f ≡ x)
 picked true x f e = (refl, cc)
 picked false x f e = absurd (never e)
 

@@ -3,7 +3,7 @@
 use Rattle.std.proofs.Common.{◌≡◌, ℕ, ◌-◌, ◌<◌, ◌≤◌, true, false, eqb, List, [], ◌∷◌, length, get_or, drop, sym, refl, ap, ◌∙◌, arith, length-drop, take_all, drop-drop}
 use native.Mathlib.Decide.{dec_lt}
 use Rattle.octets.specs.Answer.{Answer}
-use Rattle.octets.specs.Choice.{if◌then◌else◌}
+use Rattle.octets.specs.Choice.{when◌then◌else◌}
 use Rattle.octets.specs.Numbers.{low_first}
 use Rattle.octets.proofs.Lists.{part_at}
 use Rattle.octets.proofs.Outcome.{determined}
@@ -44,12 +44,12 @@ module _ (run : List ℕ) (some : length run ≡ 0 → ⊥) (short : length run 
 -- number and values determine the answer
 back : Answer → Judged
 back x =
-    if eqb x.number 1 then Faulty Empty else
-    if eqb x.number 2 then Faulty Long else
-    if eqb x.number 10 then Faulty Parity else
-    if eqb x.number 3 then Faulty Malformed else
-    if eqb x.number 4 then Faulty Spoiled else
-    if eqb (get_or x.values 0 0) 0x10 then Fixed (get_or x.values 1 0) (record { 0 = get_or x.values 2 0 }) else
+    when eqb x.number 1 then Faulty Empty else
+    when eqb x.number 2 then Faulty Long else
+    when eqb x.number 10 then Faulty Parity else
+    when eqb x.number 3 then Faulty Malformed else
+    when eqb x.number 4 then Faulty Spoiled else
+    when eqb (get_or x.values 0 0) 0x10 then Fixed (get_or x.values 1 0) (record { 0 = get_or x.values 2 0 }) else
     Variable (get_or x.values 1 0) (record { 0 = get_or x.values 2 0 }) (get_or x.values 3 0)
 
 judged_back : (x : Judged) → back (judged_says x) ≡ x

@@ -2,7 +2,7 @@
 -- Assumes nothing.
 use Rattle.std.specs.Prelude.{ℕ, List, [], ◌∷◌, length, take, drop, nat_lt}
 use Rattle.octets.specs.Answer.{Answer}
-use Rattle.octets.specs.Choice.{if◌then◌else◌}
+use Rattle.octets.specs.Choice.{when◌then◌else◌}
 use Rattle.octets.specs.Over.{laid_in}
 use Rattle.frame.specs.declared.Judged.{Judged}
 use Rattle.frame.specs.declared.Judged.TheVariants.{Faulty, Fixed, Variable}
@@ -43,7 +43,7 @@ written_says (Octets count) = record { number = 0; values = count ∷ [] }
 
 -- writing octets into the first of a buffer: the answer, and what is left of the buffer
 unfoldable pub answer_to : List ℕ → List ℕ → Written
-answer_to buffer octets = if nat_lt (length buffer) 261 then Short else Octets (length octets)
+answer_to buffer octets = when nat_lt (length buffer) 261 then Short else Octets (length octets)
 
 unfoldable pub left_of : List ℕ → List ℕ → List ℕ
-left_of buffer octets = if nat_lt (length buffer) 261 then buffer else laid_in buffer octets
+left_of buffer octets = when nat_lt (length buffer) 261 then buffer else laid_in buffer octets

@@ -1,7 +1,7 @@
 -- Frames. Document 01, "Frames" (SD1 4.3.2; IEC 870-5-1 FT 1.2): which run is a sound frame and what it says, and how a frame is written.
 -- Assumes nothing.
 use Rattle.std.specs.Prelude.{ℕ, ◌+◌, ◌-◌, Bool, not, ◌||◌, List, [], ◌∷◌, ◌++◌, length, take, drop, ◌==◌, nat_eq, nat_le, nat_lt, slice_index}
-use Rattle.octets.specs.Choice.{if◌then◌else◌}
+use Rattle.octets.specs.Choice.{when◌then◌else◌}
 use Rattle.octets.specs.Conditions.{holds}
 use Rattle.octets.specs.Numbers.{low_first, low_octets}
 use Rattle.octets.specs.Sum.{checksum}
@@ -55,7 +55,7 @@ module _ (k : Family) where
 
   -- how many octets stand before C
   unfoldable pub start_of : List ℕ → ℕ
-  start_of run = if fixed_form run then 1 else 4
+  start_of run = when fixed_form run then 1 else 4
 
   -- A is low octet first
   unfoldable pub said_fixed : List ℕ → Frame
@@ -65,7 +65,7 @@ module _ (k : Family) where
   said_variable body = variable (slice_index body 0) (low_first (take k.width (drop 1 body))) (drop k.width (drop 1 body))
 
   unfoldable pub said : List ℕ → Frame
-  said run = if fixed_form run then said_fixed (covered 1 run) else said_variable (covered 4 run)
+  said run = when fixed_form run then said_fixed (covered 1 run) else said_variable (covered 4 run)
 
   -- what the octets decide: 1 empty, 2 over 261 octets, 3 not the form of a frame, 4 checksum wrong
   unfoldable pub judge : List ℕ → Verdict

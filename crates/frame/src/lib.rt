@@ -25,7 +25,7 @@ pub enum Fault {
 }
 
 // What a run is: no sound frame, or a sound one.
-#[derive(Drop)]
+#[derive(Clone, Copy)]
 pub enum Judged {
     Faulty(Fault),
     Fixed {
@@ -73,7 +73,7 @@ pub enum Control {
 }
 
 // A reply: its control field, the link address that it carries and, for data, its user octets.
-#[derive(Drop)]
+#[derive(Clone, Copy)]
 pub struct Reply {
     pub control: Control,
     pub link: LinkAddress,

@@ -8,7 +8,7 @@ use native.Mathlib.Omega.{arith}
 use borrow.Author.Tests.{eqb-true, eqb-false, leb-true, ne_eqb}
 use lib.Dec.{leb, eqb}
 use lib.ListN.{length, length-append}
-use Rattle.octets.specs.Choice.{if◌then◌else◌}
+use Rattle.octets.specs.Choice.{when◌then◌else◌}
 use Rattle.octets.proofs.Conditions.{and_left, and_right}
 use Rattle.records.specs.Records.{kind_of, record_at, records_from, kind_at, place_after}
 use Rattle.records.specs.Said.{every, linked, keep}
@@ -24,7 +24,7 @@ use Rattle.image.proofs.Soundness.{rules, sound_facts}
 
 -- the record of kind 3 at a place, or none
 dates_in : List ℕ → ℕ → List (List ℕ)
-dates_in s at = if eqb (kind_at s at) 3 then record_at s at ∷ [] else []
+dates_in s at = when eqb (kind_at s at) 3 then record_at s at ∷ [] else []
 
 behind_points : {s : List ℕ} {at : ℕ} {rs : List (List ℕ)} → Lie s at rs → every (λ q. leb 2 (kind_of q)) rs ≡ true → linked in_order rs ≡ true
     → keep (is_kind 3) rs ≡ dates_in s (at + length (flatten (leading (is_kind 2) rs)))
@@ -40,7 +40,7 @@ behind_points {s} {at} (one {rs = rs} e lies) g l =
     there = kind_whole s at e ∙ sym (kind_there s at e)
 
     -- no points any more: the record here is the one, or there is none
-    ended : (kind_of r ≡ 2 → ⊥) → (t : Bool) → eqb (kind_of r) 3 ≡ t → (if t then r ∷ keep (is_kind 3) rs else keep (is_kind 3) rs) ≡ (if t then r ∷ [] else [])
+    ended : (kind_of r ≡ 2 → ⊥) → (t : Bool) → eqb (kind_of r) 3 ≡ t → (when t then r ∷ keep (is_kind 3) rs else keep (is_kind 3) rs) ≡ (when t then r ∷ [] else [])
     ended n true f = ap (r ∷◌) (dates_alone r rs l (eqb-true (kind_of r) 3 f))
     ended n false f =
         let other : kind_of r ≡ 3 → ⊥ = eqb-false (kind_of r) 3 f in
@@ -48,7 +48,7 @@ behind_points {s} {at} (one {rs = rs} e lies) g l =
         keep_none (is_kind 3) (λ q. leb 4 (kind_of q)) (λ q h. ne_eqb (kind_of q) 3 (λ k. omega (arith, leb-true 4 (kind_of q) h))) rs (from_kind r rs l 4 fourth)
 
     by_test : keep (is_kind 3) rs ≡ dates_in s (place_after s at + length (flatten (leading (is_kind 2) rs))) → (t : Bool) → eqb (kind_of r) 2 ≡ t
-        → (if eqb (kind_of r) 3 then r ∷ keep (is_kind 3) rs else keep (is_kind 3) rs) ≡ dates_in s (at + length (flatten (if t then r ∷ leading (is_kind 2) rs else [])))
+        → (when eqb (kind_of r) 3 then r ∷ keep (is_kind 3) rs else keep (is_kind 3) rs) ≡ dates_in s (at + length (flatten (when t then r ∷ leading (is_kind 2) rs else [])))
     by_test rest true f =
         let place : at + length (r ++ flatten (leading (is_kind 2) rs)) ≡ place_after s at + length (flatten (leading (is_kind 2) rs)) =
         omega (arith, after_whole s at e, length-append r (flatten (leading (is_kind 2) rs))) in
@@ -58,7 +58,7 @@ behind_points {s} {at} (one {rs = rs} e lies) g l =
         rw (z, there) (ended (eqb-false (kind_of r) 2 f) (eqb (kind_of r) 3) refl)
 
 pub dates_found_law : (image : List ℕ) → sound_image image ≡ true
-    → keep (is_kind 3) (records_of image) ≡ (if eqb (kind_at image (dates_place image)) 3 then record_at image (dates_place image) ∷ [] else [])
+    → keep (is_kind 3) (records_of image) ≡ (when eqb (kind_at image (dates_place image)) 3 then record_at image (dates_place image) ∷ [] else [])
 unfolding dates_place points_of points_from dates_in keep
 dates_found_law image e =
     let s = rules image e in

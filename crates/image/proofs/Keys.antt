@@ -8,7 +8,7 @@ use native.Mathlib.Omega.{arith}
 use borrow.Author.Tests.{eqb-true, not-false, ne_eqb, lt-ltb}
 use lib.Dec.{ltb, leb, eqb}
 use lib.ListN.{length, length-append}
-use Rattle.octets.specs.Choice.{if◌then◌else◌}
+use Rattle.octets.specs.Choice.{when◌then◌else◌}
 use Rattle.octets.specs.Numbers.{low_first}
 use Rattle.octets.proofs.Choice.{if_both}
 use Rattle.octets.proofs.Conditions.{and_left}
@@ -63,7 +63,7 @@ pub minutes_only : (l l' : LabelA) → before_b (at_minute l) (at_minute l') ≡
 unfolding before_b in_minute second millisecond low_first
 minutes_only l l' = by_tests (before_a l l') (before_a l' l)
   where
-    by_tests : (t u : Bool) → (if t then true else if u then false else false) ≡ t
+    by_tests : (t u : Bool) → (when t then true else when u then false else false) ≡ t
     by_tests true u = refl
     by_tests false true = refl
     by_tests false false = refl
@@ -83,10 +83,10 @@ module _ (r q : List ℕ) where
 
   by_kinds : (k l : ℕ) → k ≡ kind_of r → l ≡ kind_of q
       → in_order r q
-      ≡ (if not (eqb k l) then ltb k l else
-      if eqb k 2 then ltb (key_of r).point.0 (key_of q).point.0 else
-      if eqb k 4 then key_before (key_of r) (key_of q) else
-      if eqb k 5 then not (key_before (key_of q) (key_of r)) else
+      ≡ (when not (eqb k l) then ltb k l else
+      when eqb k 2 then ltb (key_of r).point.0 (key_of q).point.0 else
+      when eqb k 4 then key_before (key_of r) (key_of q) else
+      when eqb k 5 then not (key_before (key_of q) (key_of r)) else
       false)
   unfolding in_order
   by_kinds k l e f =

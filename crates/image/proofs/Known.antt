@@ -8,7 +8,7 @@ use native.Mathlib.Omega.{arith}
 use borrow.Author.Tests.{eqb-true, eqb-false, ltb-true, leb-true, ne_eqb, lt-ltb, le-leb, lt-leb}
 use lib.Dec.{ltb, leb, eqb}
 use lib.ListN.{length}
-use Rattle.octets.specs.Choice.{if◌then◌else◌}
+use Rattle.octets.specs.Choice.{when◌then◌else◌}
 use Rattle.octets.proofs.Choice.{either, if_both, refuted}
 use Rattle.octets.proofs.Conditions.{and_left, and_right}
 use Rattle.records.specs.Records.{kind_of, whole_at, record_at, records_from, kind_at, place_after}
@@ -66,7 +66,7 @@ module _ (f : List ℕ → Bool) (point_only : (r : List ℕ) → f r ≡ true �
       by_test (keep_front rs (and_right (leb 2 (kind_of r)) _ g) (linked_tail in_order r rs l)) (eqb (kind_of r) 2) refl
     where
       by_test : keep f (leading (is_kind 2) rs) ≡ keep f rs
-          → (t : Bool) → eqb (kind_of r) 2 ≡ t → keep f (if t then r ∷ leading (is_kind 2) rs else []) ≡ keep f (r ∷ rs)
+          → (t : Bool) → eqb (kind_of r) 2 ≡ t → keep f (when t then r ∷ leading (is_kind 2) rs else []) ≡ keep f (r ∷ rs)
       by_test rest true e = if_both (λ (x y : List (List ℕ)). x ≡ y) (f r) (λ p. ap (r ∷◌) rest) (λ p. rest)
       by_test rest false e =
           let other : kind_of r ≡ 2 → ⊥ = eqb-false (kind_of r) 2 e in
@@ -80,7 +80,7 @@ unfolding keep leading
 keep_leading f [] = refl
 keep_leading f (r ∷ rs) = by_test (keep_leading f rs) (f r) refl
   where
-    by_test : keep f (leading f rs) ≡ leading f rs → (t : Bool) → f r ≡ t → keep f (if t then r ∷ leading f rs else []) ≡ (if t then r ∷ leading f rs else [])
+    by_test : keep f (leading f rs) ≡ leading f rs → (t : Bool) → f r ≡ t → keep f (when t then r ∷ leading f rs else []) ≡ (when t then r ∷ leading f rs else [])
     by_test rest true e = rw e (ap (r ∷◌) rest)
     by_test rest false e = refl
 
@@ -95,7 +95,7 @@ found_point a n (r ∷ rs) = by_tests (found_point a (n + 1) rs) (eqb (kind_of r
 
     by_tests : is_found (point_in a (n + 1) ps) ≡ ltb 0 (length (keep (is_point a) ps))
         → (t u : Bool) → eqb (kind_of r) 2 ≡ t → eqb (point_of r) a ≡ u
-        → is_found (point_in a n (if t then r ∷ ps else [])) ≡ ltb 0 (length (keep (is_point a) (if t then r ∷ ps else [])))
+        → is_found (point_in a n (when t then r ∷ ps else [])) ≡ ltb 0 (length (keep (is_point a) (when t then r ∷ ps else [])))
     by_tests rest false u e f = refl
     by_tests rest true true e f = rw (e, f) (sym (lt-ltb 0 (suc (length (keep (is_point a) ps))) (omega arith)))
     by_tests rest true false e f = rw (e, f) rest

@@ -9,7 +9,7 @@ use borrow.Author.Tests.{eqb-true, eqb-false, ltb-true, ltb-false, eq-eqb, ne_eq
 use lib.Dec.{ltb, eqb}
 use lib.ListN.{length, get_or}
 use lib.Signed.{le_z}
-use Rattle.octets.specs.Choice.{if◌then◌else◌}
+use Rattle.octets.specs.Choice.{when◌then◌else◌}
 use Rattle.octets.proofs.Choice.{not_both, same_test}
 use Rattle.octets.proofs.Conditions.{and_left, and_right}
 use Rattle.label.specs.Label.{instant, before_b}
@@ -22,7 +22,7 @@ use Rattle.image.specs.Image.{by_point, reading_before, event_before, in_order}
 
 -- one part of a comparison: where the numbers differ they decide, and else the rest does
 abbrev pub part : ℕ → ℕ → Bool → Bool
-part x y rest = if not (eqb x y) then ltb x y else rest
+part x y rest = when not (eqb x y) then ltb x y else rest
 
 data Part (x y : ℕ) (rest : Bool) : Type 0 where
   decided : x < y → Part x y rest
@@ -31,7 +31,7 @@ data Part (x y : ℕ) (rest : Bool) : Type 0 where
 part_true : (x y : ℕ) (rest : Bool) → part x y rest ≡ true → Part x y rest
 part_true x y rest e = by_test (eqb x y) refl e
   where
-    by_test : (t : Bool) → eqb x y ≡ t → (if not t then ltb x y else rest) ≡ true → Part x y rest
+    by_test : (t : Bool) → eqb x y ≡ t → (when not t then ltb x y else rest) ≡ true → Part x y rest
     by_test true f e = passed (eqb-true x y f) e
     by_test false f e = decided (ltb-true x y e)
 
@@ -55,7 +55,7 @@ part_trans x y z t u v next e f = by_parts (part_true x y t e) (part_true y z u 
 pub part_not : (x y : ℕ) (rest : Bool) → not (part y x rest) ≡ part x y (not rest)
 part_not x y rest = by_tests (eqb y x) (eqb x y) refl refl
   where
-    by_tests : (t u : Bool) → eqb y x ≡ t → eqb x y ≡ u → not (if not t then ltb y x else rest) ≡ (if not u then ltb x y else not rest)
+    by_tests : (t u : Bool) → eqb y x ≡ t → eqb x y ≡ u → not (when not t then ltb y x else rest) ≡ (when not u then ltb x y else not rest)
     by_tests true true e f = refl
     by_tests true false e f = absurd (eqb-false x y f (sym (eqb-true y x e)))
     by_tests false true e f = absurd (eqb-false y x e (sym (eqb-true x y f)))
@@ -93,9 +93,9 @@ events_trans r q p =
 -- of one kind, and of any
 same_kind : ℕ → List ℕ → List ℕ → Bool
 same_kind kind r q =
-    if eqb kind 2 then ltb (point_of r) (point_of q) else
-    if eqb kind 4 then reading_before r q else
-    if eqb kind 5 then not (event_before q r) else
+    when eqb kind 2 then ltb (point_of r) (point_of q) else
+    when eqb kind 4 then reading_before r q else
+    when eqb kind 5 then not (event_before q r) else
     false
 
 same_kind_trans : (kind : ℕ) (r q p : List ℕ) → same_kind kind r q ≡ true → same_kind kind q p ≡ true → same_kind kind r p ≡ true
@@ -103,7 +103,7 @@ unfolding same_kind
 same_kind_trans kind r q p = by_tests (eqb kind 2) (eqb kind 4) (eqb kind 5)
   where
     of : Bool → Bool → Bool → List ℕ → List ℕ → Bool
-    of t u v r q = if t then ltb (point_of r) (point_of q) else if u then reading_before r q else if v then not (event_before q r) else false
+    of t u v r q = when t then ltb (point_of r) (point_of q) else when u then reading_before r q else when v then not (event_before q r) else false
 
     by_tests : (t u v : Bool) → of t u v r q ≡ true → of t u v q p ≡ true → of t u v r p ≡ true
     by_tests true u v = less_trans (point_of r) (point_of q) (point_of p)

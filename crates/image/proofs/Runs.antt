@@ -9,7 +9,7 @@ use borrow.Author.Tests.{eqb-true, eqb-false, leb-true, leb-false, eq-eqb, ne_eq
 use lib.Dec.{ltb, leb, eqb}
 use lib.IntN.{ℤ}
 use lib.ListN.{length}
-use Rattle.octets.specs.Choice.{if◌then◌else◌}
+use Rattle.octets.specs.Choice.{when◌then◌else◌}
 use Rattle.octets.proofs.Conditions.{and_right}
 use Rattle.label.specs.Label.{valid_a, valid_b, instant, before_a, before_b}
 use Rattle.records.specs.Records.{length_of, kind_of, whole_at, record_at, kind_at, place_after}
@@ -210,7 +210,7 @@ module _ (points : List (List ℕ)) (last k : Key) (address valid : Bool) (parts
 -- the order of two keys of one kind, by what their labels say
 module _ (m n : ℕ) (t u v : Bool) where
   order_of_kinds : Bool
-  order_of_kinds = if not (eqb m n) then ltb m n else if eqb m 2 then t else if eqb m 4 then u else if eqb m 5 then v else false
+  order_of_kinds = when not (eqb m n) then ltb m n else when eqb m 2 then t else when eqb m 4 then u else when eqb m 5 then v else false
 
   order_4 : m ≡ 4 → n ≡ 4 → order_of_kinds ≡ u
   unfolding order_of_kinds
@@ -262,12 +262,12 @@ module _ (points : List (List ℕ)) (last k : Key) (later : Bool) (n : last.kind
 
 -- how far it is to the end: each step comes nearer, and the last one halts
 abbrev pub ahead : List ℕ → Run → ℕ
-ahead s run = (if run.going then 1 else 0) + (length s - run.at)
+ahead s run = (when run.going then 1 else 0) + (length s - run.at)
 
 pub nearer_end : {kind : ℕ} {s : List ℕ} {run next : Run} → run.going ≡ true → Next kind s run next → ahead s next < ahead s run
 nearer_end {s = s} {run} {next} g x = rw g (by_test next.going refl)
   where
-    by_test : (t : Bool) → next.going ≡ t → (if t then 1 else 0) + (length s - next.at) < 1 + (length s - run.at)
+    by_test : (t : Bool) → next.going ≡ t → (when t then 1 else 0) + (length s - next.at) < 1 + (length s - run.at)
     by_test true e = omega (arith, x.nearer e)
     by_test false e = omega (arith, x.onward.further)
 

@@ -10,7 +10,7 @@ use Rattle.input.proofs.judge_head.Reads as judge_head
 use Rattle.input.proofs.run_size.Reads as run_size
 use Rattle.input.proofs.judge_run.Reads as judge_run
 use Rattle.input.proofs.call_size.Reads as call_size
-use Rattle.input.proofs.judge.Reads as judge_call
+use Rattle.input.proofs.judge_call.Reads as judge_call
 
 image_in_one : OneReading (λ κs r. r.now) image_in.Post
 image_in_one κs a r r' s s' = one_outcome

@@ -9,7 +9,7 @@ use contract.Lifetimes.{Lfts}
 use lib.Dec.{ltb, eqb}
 use lib.ListN.{length, get_or}
 use borrow.Author.Tests.{le-ltb, ne_eqb}
-use Rattle.octets.specs.Choice.{if◌then◌else◌}
+use Rattle.octets.specs.Choice.{when◌then◌else◌}
 use Rattle.octets.specs.Numbers.{low_first, high_first}
 use Rattle.octets.specs.Over.{over}
 use Rattle.octets.proofs.Choice.{not_both}
@@ -30,11 +30,11 @@ use Rattle.input.proofs.judge_head.Reads as judge_head
 use Rattle.input.proofs.run_size.Reads as run_size_call
 use Rattle.input.proofs.judge_run.Reads as judge_run
 use Rattle.input.proofs.call_size.Reads as call_size_call
-use Rattle.input.proofs.judge.Reads as judge_call
+use Rattle.input.proofs.judge_call.Reads as judge_call
 
 -- of four tests in a row the last holds where none before it decides
 whole_last : (t u v w : Bool)
-    → head.Whole ≡ (if t then head.Cut else if u then head.Version else if v then head.Cut else if not w then head.Image else head.Whole) → w ≡ true
+    → head.Whole ≡ (when t then head.Cut else when u then head.Version else when v then head.Cut else when not w then head.Image else head.Whole) → w ≡ true
 whole_last true u v w p = absurd (never (cc))
 whole_last false true v w p = absurd (never (cc))
 whole_last false false true w p = absurd (never (cc))

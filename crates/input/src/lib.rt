@@ -1,3 +1,4 @@
+#![tactic(auto)]
 // How the programs' inputs are taken apart: functions on the octets read so far, so that a program only reads, calls and writes.
 ghost use Rattle.std.specs.Prelude.{◌≡◌};
 ghost use Rattle.input.specs.Input.{length_of2, length_of3, clock_at, head_size, image_in, clock_in, head_found, run_size, run_found, takes_octets, takes_characters, are_bits, call_size, whole_call, call_found};

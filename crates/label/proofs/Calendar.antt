@@ -8,7 +8,7 @@ use native.Mathlib.Omega.{arith}
 use native.Mathlib.Nat.{le_of_suc-le-suc, not-suc-le-zero}
 use borrow.Author.Tests.{eqb-true, eqb-false, eq-eqb, ne_eqb, leb-true}
 use lib.Dec.{leb, eqb}
-use Rattle.octets.specs.Choice.{if◌then◌else◌}
+use Rattle.octets.specs.Choice.{when◌then◌else◌}
 use Rattle.octets.proofs.Computed.{pass_all, at_each}
 use Rattle.label.specs.Calendar.{leap, leap_day, month_length, days_of_months, days_to_year}
 
@@ -41,7 +41,7 @@ unfolding month_length
 length_rule is_leap month first last h = rw (ne_eqb month 2 h) (by_tests (eqb month 4) (eqb month 6) (eqb month 9) (eqb month 11) refl refl refl refl)
   where
     by_tests : (april june september november : Bool) → eqb month 4 ≡ april → eqb month 6 ≡ june → eqb month 9 ≡ september → eqb month 11 ≡ november
-        → (if april || june || september || november then 30 else 31) ≡ 30 + (month + month / 8) % 2
+        → (when april || june || september || november then 30 else 31) ≡ 30 + (month + month / 8) % 2
     by_tests true june september november a j s n = omega (arith, eqb-true month 4 a)
     by_tests false true september november a j s n = omega (arith, eqb-true month 6 j)
     by_tests false false true november a j s n = omega (arith, eqb-true month 9 s)

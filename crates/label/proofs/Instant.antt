@@ -10,7 +10,7 @@ use lib.IntN.{ℤ, pos, negsuc, nat_abs, ◌-ℤ◌}
 use lib.Signed.{lt_z, le_z, non_neg}
 use mir.Syntax.{w64}
 use mir.Val.{SFits}
-use Rattle.octets.specs.Choice.{if◌then◌else◌}
+use Rattle.octets.specs.Choice.{when◌then◌else◌}
 use Rattle.octets.proofs.Choice.{same_test}
 use Rattle.label.specs.declared.LabelA.{LabelA}
 use Rattle.label.specs.declared.LabelB.{LabelB}
@@ -77,7 +77,7 @@ less_fits n h = by_sign (less_60 n)
 
 -- the minutes since 31 December 1999 23:00
 unfoldable pub from_earliest : LabelA → ℕ
-from_earliest l = if not (valid_a l) then 60 else if eqb (su l) 1 then minutes (date_time_a l) else 60 + minutes (date_time_a l)
+from_earliest l = when not (valid_a l) then 60 else when eqb (su l) 1 then minutes (date_time_a l) else 60 + minutes (date_time_a l)
 
 pub instant_from : (l : LabelA) → instant l ≡ pos (from_earliest l) -ℤ pos 60
 unfolding instant from_earliest
@@ -86,7 +86,7 @@ instant_from l = by_tests (valid_a l) (eqb (su l) 1)
     n : ℕ
     n = minutes (date_time_a l)
 
-    by_tests : (v s : Bool) → (if not v then pos 0 else if s then pos n -ℤ pos 60 else pos n) ≡ pos (if not v then 60 else if s then n else 60 + n) -ℤ pos 60
+    by_tests : (v s : Bool) → (when not v then pos 0 else when s then pos n -ℤ pos 60 else pos n) ≡ pos (when not v then 60 else when s then n else 60 + n) -ℤ pos 60
     by_tests false s = refl
     by_tests true true = refl
     by_tests true false = back (less_60 (60 + n))
@@ -127,7 +127,7 @@ before_b_law l l' = rw (before_a_law l.a l'.a, before_a_law l'.a l.a) (by_tests 
     small = (in_minute_small l, in_minute_small l')
 
     by_tests : (t u : Bool) → ltb x y ≡ t → ltb y x ≡ u
-        → (if t then true else if u then false else ltb (in_minute l) (in_minute l')) ≡ ltb n m
+        → (when t then true else when u then false else ltb (in_minute l) (in_minute l')) ≡ ltb n m
     by_tests true u e f = sym (lt-ltb n m (omega (arith, ltb-true x y e, small.0)))
     by_tests false true e f = sym (le-ltb n m (omega (arith, ltb-true y x f, small.1)))
     by_tests false false e f =

@@ -9,7 +9,7 @@ use borrow.Author.Tests.{eqb-true, eq-eqb, lt-ltb, le-ltb}
 use lib.Dec.{ltb, eqb}
 use lib.IntN.{pos, ◌-ℤ◌}
 use lib.ListN.{length, get_or}
-use Rattle.octets.specs.Choice.{if◌then◌else◌}
+use Rattle.octets.specs.Choice.{when◌then◌else◌}
 use Rattle.octets.proofs.Choice.{same_test}
 use Rattle.label.specs.declared.DateTime.{DateTime}
 use Rattle.label.specs.declared.LabelA.{LabelA}
@@ -33,9 +33,9 @@ standing l v =
     rw v (by_su r (eqb (su l) 1))
   where
     by_su : Real (date_time_a l) → (s : Bool)
-        → RealTime (if s then hour_earlier (date_time_a l) else as_it_stands (date_time_a l))
-        × (count (if s then hour_earlier (date_time_a l) else as_it_stands (date_time_a l)) + 60
-        ≡ days_to 2000 * 1440 + (if s then minutes (date_time_a l) else 60 + minutes (date_time_a l)))
+        → RealTime (when s then hour_earlier (date_time_a l) else as_it_stands (date_time_a l))
+        × (count (when s then hour_earlier (date_time_a l) else as_it_stands (date_time_a l)) + 60
+        ≡ days_to 2000 * 1440 + (when s then minutes (date_time_a l) else 60 + minutes (date_time_a l)))
     by_su r true = let b = hour_earlier_law (date_time_a l) r in (b.there, b.counts)
     by_su r false = let b = stands_so (date_time_a l) r in (b.there, omega (arith, b.counts))
 
@@ -67,11 +67,11 @@ whole_years y y' xs ys = rw (same, both_less (2000 + y) (2000 + y') y y' (λ h. 
         (λ e. eq-eqb y y' (omega (arith, eqb-true (2000 + y) (2000 + y') e)))
         (λ e. eq-eqb (2000 + y) (2000 + y') (omega (arith, eqb-true y y' e)))
 
-from_su : (l : LabelA) → valid_a l ≡ true → from_earliest l ≡ (if eqb (su l) 1 then 0 else 60) + minutes (date_time_a l)
+from_su : (l : LabelA) → valid_a l ≡ true → from_earliest l ≡ (when eqb (su l) 1 then 0 else 60) + minutes (date_time_a l)
 unfolding from_earliest
 from_su l v = rw v (by_su (eqb (su l) 1))
   where
-    by_su : (s : Bool) → (if s then minutes (date_time_a l) else 60 + minutes (date_time_a l)) ≡ (if s then 0 else 60) + minutes (date_time_a l)
+    by_su : (s : Bool) → (when s then minutes (date_time_a l) else 60 + minutes (date_time_a l)) ≡ (when s then 0 else 60) + minutes (date_time_a l)
     by_su true = omega arith
     by_su false = refl
 
@@ -103,7 +103,7 @@ order_a_as_it_stands l l' v v' e =
     b' : Before 0 t' s'
     b' = stands_so t' (real_facts t' (valid_a_law l' v').real_time)
 
-    from' : from_earliest l' ≡ (if eqb (su l) 1 then 0 else 60) + minutes t'
+    from' : from_earliest l' ≡ (when eqb (su l) 1 then 0 else 60) + minutes t'
     from' = rw e (from_su l' v')
 
     as_parts : earlier (parts_in s) (parts_in s') ≡ earlier (parts_of t) (parts_of t')

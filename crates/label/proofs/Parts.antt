@@ -8,15 +8,15 @@ use native.Mathlib.Omega.{arith}
 use borrow.Author.Tests.{eqb-true, eqb-false, ltb-true, ltb-false, eq-eqb, ne_eqb, lt-ltb, le-ltb}
 use lib.Dec.{ltb, eqb}
 use lib.ListN.{length}
-use Rattle.octets.specs.Choice.{if◌then◌else◌}
+use Rattle.octets.specs.Choice.{when◌then◌else◌}
 use Rattle.octets.proofs.Choice.{not_both}
 use Rattle.label.specs.Standard.{earlier}
 
 -- one part of a comparison: it decides the order of two numbers, or the rest does
-pub part_decides : (x y n m : ℕ) (rest : Bool) → (x < y → n < m) → (y < x → m < n) → (x ≡ y → rest ≡ ltb n m) → (if eqb x y then rest else ltb x y) ≡ ltb n m
+pub part_decides : (x y n m : ℕ) (rest : Bool) → (x < y → n < m) → (y < x → m < n) → (x ≡ y → rest ≡ ltb n m) → (when eqb x y then rest else ltb x y) ≡ ltb n m
 part_decides x y n m rest up down same = by_tests (eqb x y) (ltb x y) refl refl
   where
-    by_tests : (t u : Bool) → eqb x y ≡ t → ltb x y ≡ u → (if t then rest else u) ≡ ltb n m
+    by_tests : (t u : Bool) → eqb x y ≡ t → ltb x y ≡ u → (when t then rest else u) ≡ ltb n m
     by_tests true u e f = same (eqb-true x y e)
     by_tests false true e f = sym (lt-ltb n m (up (ltb-true x y f)))
     by_tests false false e f =
@@ -56,15 +56,15 @@ neither (x ∷ xs) (y ∷ ys) n e f = by_heads (ranked x y) (neither xs ys (omeg
 
 -- the first parts decide, or the last ones do
 pub earlier_append : (xs ys us vs : List ℕ) → length xs ≡ length ys
-    → earlier (xs ++ us) (ys ++ vs) ≡ (if earlier xs ys then true else if earlier ys xs then false else earlier us vs)
+    → earlier (xs ++ us) (ys ++ vs) ≡ (when earlier xs ys then true else when earlier ys xs then false else earlier us vs)
 unfolding earlier
 earlier_append [] [] us vs n = refl
 earlier_append [] (y ∷ ys) us vs n = absurd (omega arith)
 earlier_append (x ∷ xs) [] us vs n = absurd (omega arith)
 earlier_append (x ∷ xs) (y ∷ ys) us vs n = by_heads (ranked x y) (earlier_append xs ys us vs (omega arith))
   where
-    by_heads : Ranked x y → earlier (xs ++ us) (ys ++ vs) ≡ (if earlier xs ys then true else if earlier ys xs then false else earlier us vs)
-        → earlier (x ∷ xs ++ us) (y ∷ ys ++ vs) ≡ (if earlier (x ∷ xs) (y ∷ ys) then true else if earlier (y ∷ ys) (x ∷ xs) then false else earlier us vs)
+    by_heads : Ranked x y → earlier (xs ++ us) (ys ++ vs) ≡ (when earlier xs ys then true else when earlier ys xs then false else earlier us vs)
+        → earlier (x ∷ xs ++ us) (y ∷ ys ++ vs) ≡ (when earlier (x ∷ xs) (y ∷ ys) then true else when earlier (y ∷ ys) (x ∷ xs) then false else earlier us vs)
     by_heads (lower h) i = simp (ne_eqb x y (λ p. omega arith), lt-ltb x y h)
     by_heads (level p) i = simp (eq-eqb x y p, eq-eqb y x (sym p)) i
     by_heads (higher h) i = simp (ne_eqb x y (λ p. omega arith), ne_eqb y x (λ p. omega arith), le-ltb x y (omega arith), lt-ltb y x h)

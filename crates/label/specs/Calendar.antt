@@ -1,7 +1,7 @@
 -- The calendar of the years 2000 to 2099. A year is its last two figures, 0 to 99; months are 1 to 12.
 -- Assumes nothing.
 use Rattle.std.specs.Prelude.{ℕ, zero, suc, ◌+◌, ◌-◌, ◌%◌, Bool, not, ◌&&◌, ◌||◌, eqb}
-use Rattle.octets.specs.Choice.{if◌then◌else◌}
+use Rattle.octets.specs.Choice.{when◌then◌else◌}
 
 -- every fourth year is a leap year, but of the hundreds only every fourth
 unfoldable pub leap : ℕ → Bool
@@ -9,13 +9,13 @@ leap year = eqb ((2000 + year) % 4) 0 && (not (eqb ((2000 + year) % 100) 0) || e
 
 -- the day that a leap year has more, given whether the year is one
 unfoldable pub leap_day : Bool → ℕ
-leap_day is_leap = if is_leap then 1 else 0
+leap_day is_leap = when is_leap then 1 else 0
 
 -- February has 28 days, 29 in a leap year; April, June, September and November have 30; the others have 31
 unfoldable pub month_length : Bool → ℕ → ℕ
 month_length is_leap month =
-    if eqb month 2 then 28 + leap_day is_leap else
-    if eqb month 4 || eqb month 6 || eqb month 9 || eqb month 11 then 30 else
+    when eqb month 2 then 28 + leap_day is_leap else
+    when eqb month 4 || eqb month 6 || eqb month 9 || eqb month 11 then 30 else
     31
 
 -- the days of a year's first so many months

@@ -3,7 +3,7 @@
 use Rattle.std.specs.Prelude.{ℕ, ◌+◌, ◌*◌, Bool, true, false, not, List, [], ◌∷◌, ltb, leb, eqb, ℤ, pos, ◌-ℤ◌, get_or}
 use Rattle.std.specs.Int.Signed.{lt_z}
 use Rattle.octets.specs.Bits.{bits◌to◌of◌}
-use Rattle.octets.specs.Choice.{if◌then◌else◌}
+use Rattle.octets.specs.Choice.{when◌then◌else◌}
 use Rattle.octets.specs.Conditions.{holds}
 use Rattle.octets.specs.Numbers.{low_first}
 use Rattle.label.specs.declared.DateTime.{DateTime}
@@ -58,8 +58,8 @@ su l = bits 8 to 8 of l.hour
 -- number: "a summer label in the first hour of 2000 lies before the year's start". A label that is not valid has 0, so that every label has an instant
 unfoldable pub instant : LabelA → ℤ
 instant l =
-    if not (valid_a l) then pos 0 else
-    if eqb (su l) 1 then pos (minutes (date_time_a l)) -ℤ pos 60 else
+    when not (valid_a l) then pos 0 else
+    when eqb (su l) 1 then pos (minutes (date_time_a l)) -ℤ pos 60 else
     pos (minutes (date_time_a l))
 
 unfoldable pub before_a : LabelA → LabelA → Bool
@@ -82,8 +82,8 @@ in_minute l = second l * 1000 + millisecond l
 -- b also by second and millisecond
 unfoldable pub before_b : LabelB → LabelB → Bool
 before_b l l' =
-    if before_a l.a l'.a then true else
-    if before_a l'.a l.a then false else
+    when before_a l.a l'.a then true else
+    when before_a l'.a l.a then false else
     ltb (in_minute l) (in_minute l')
 
 -- its parts as they stand

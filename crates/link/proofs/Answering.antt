@@ -99,6 +99,8 @@ pub record Noted (bit : ℕ) (a : Answered) : Type 0 where
 module _ (link : Link) (user : Kept) (image clock : List ℕ) where
   way_noted : {asked : Service} {bit : ℕ} {a : Answered} → Counts asked bit → Way link user image clock asked a → (a.sends ≡ NotReset → ⊥) → Noted bit a
   unfolding answered_by noted carried after_new
+  way_noted {bit = bit} counts as_reset some = elim counts [ ]
+  way_noted {bit = bit} counts as_status some = elim counts [ ]
   way_noted counts (not_reset c r) some = absurd (some refl)
   way_noted user_data_law (repeated user_data_law r e) some = record { is_reset = r; last = e; remembers = refl }
   way_noted collects (repeated collects r e) some = record { is_reset = r; last = e; remembers = refl }

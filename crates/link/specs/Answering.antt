@@ -1,7 +1,7 @@
 -- A sound frame for this card answered. Document 01, "Frames", the four rules of the link; 7 of "What a gap answers".
 -- Assumes nothing.
 use Rattle.std.specs.Prelude.{ℕ, not, ◌||◌, List, [], ltb, eqb, replicate}
-use Rattle.octets.specs.Choice.{if◌then◌else◌}
+use Rattle.octets.specs.Choice.{when◌then◌else◌}
 use Rattle.octets.specs.First.{When, ◌⇒◌▸◌, first_of◌else◌}
 use Rattle.octets.specs.declared.Kept.{Kept}
 use Rattle.address.specs.declared.LinkAddress.{LinkAddress}
@@ -51,13 +51,13 @@ carried address bit link done =
 -- function 3 gets NACK if replies wait or there are under 6 user octets
 unfoldable pub user_data : LinkAddress → ℕ → Link → Kept → List ℕ → List ℕ → Answered
 user_data address bit link request image clock =
-    if is_waiting link.pending.waiting || ltb request.length 6 then noted bit (plain Nack address) link else
+    when is_waiting link.pending.waiting || ltb request.length 6 then noted bit (plain Nack address) link else
     carried address bit link (carried_out link.session image clock request)
 
 -- function 11 gives the next waiting reply, or 09
 unfoldable pub given : LinkAddress → ℕ → Link → Next → Answered
 given address bit link next =
-    if next.found then answered_by Remembered (after_new bit (data_reply next.message address) link.session next.pending link) else
+    when next.found then answered_by Remembered (after_new bit (data_reply next.message address) link.session next.pending link) else
     noted bit (plain NothingToGive address) link
 
 unfoldable pub collection : LinkAddress → ℕ → Link → List ℕ → Answered

@@ -1,3 +1,4 @@
+#![tactic(auto)]
 // The link and the session: a sound frame for this card is answered.
 ghost use Rattle.std.specs.Prelude.{◌≡◌};
 ghost use Rattle.link.specs.State.{data_reply, power_on, after_reset, after_new};
@@ -13,7 +14,7 @@ use rules::Session;
 use waiting::Next;
 
 // Whether a reset was answered since power-on, the last FCB, the session, the remembered reply, what waits.
-#[derive(Drop)]
+#[derive(Clone, Copy)]
 pub struct Link {
     pub reset: bool,
     pub fcb: u8,
@@ -31,7 +32,7 @@ pub enum Sends {
 }
 
 // What is sent, an order to the meter with its time octets, and the link after it.
-#[derive(Drop)]
+#[derive(Clone, Copy)]
 pub struct Answered {
     pub sends: Sends,
     pub order: Order,

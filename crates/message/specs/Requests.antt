@@ -1,7 +1,7 @@
 -- A request, read once from its octets: the header, and what stands behind it by the type (SD1 4.4). What is not there counts as 0.
 -- Assumes nothing.
 use Rattle.std.specs.Prelude.{ℕ, ◌+◌, ◌-◌, Bool, ◌||◌, List, [], ◌∷◌, eqb, leb, length, get_or}
-use Rattle.octets.specs.Choice.{if◌then◌else◌}
+use Rattle.octets.specs.Choice.{when◌then◌else◌}
 use Rattle.octets.specs.Conditions.{holds}
 use Rattle.octets.specs.Numbers.{low_first}
 use Rattle.label.specs.Label.{label_a_at, label_b_at}
@@ -23,7 +23,7 @@ objects_many objects = objects.last - objects.first + 1
 
 -- where the labels a stand: of a request for readings behind the two objects, of any other directly behind the header
 unfoldable pub labels_from : ℕ → ℕ
-labels_from type = if asks_readings type then 8 else 6
+labels_from type = when asks_readings type then 8 else 6
 
 -- first and last object of 122 and 123, first and last label of these and of 102 and 186, the label b of 181, the password of 183, its full 32 bits
 unfoldable pub request_of : List ℕ → Request

@@ -1,7 +1,7 @@
 -- The ten requests: type, N, octets, cause, record addresses, and what each does when it is accepted. Document 01, "Messages", the table.
 -- Assumes nothing.
 use Rattle.std.specs.Prelude.{ℕ, List, [], ◌∷◌, eqb}
-use Rattle.octets.specs.Choice.{if◌then◌else◌}
+use Rattle.octets.specs.Choice.{when◌then◌else◌}
 use Rattle.message.specs.declared.Addresses.{Addresses}
 use Rattle.message.specs.declared.Addresses.TheVariants.{Only, Events}
 use Rattle.message.specs.declared.Deed.{Deed}
@@ -32,4 +32,4 @@ table =
 -- the row of a type
 unfoldable pub row_in : List Row → ℕ → RowFound
 row_in [] type = Nothing
-row_in (r ∷ rs) type = if eqb r.type_id type then Is r else row_in rs type
+row_in (r ∷ rs) type = when eqb r.type_id type then Is r else row_in rs type

@@ -7,7 +7,7 @@ use borrow.Author.Tests.{ne_eqb}
 use lib.Dec.{eqb}
 use lib.ListN.{length, get_or}
 use Rattle.octets.specs.Answer.{Answer}
-use Rattle.octets.specs.Choice.{if◌then◌else◌}
+use Rattle.octets.specs.Choice.{when◌then◌else◌}
 use Rattle.octets.proofs.Outcome.{determined}
 use Rattle.names.specs.declared.Code.{Code}
 use Rattle.names.specs.declared.Checked.{Checked}
@@ -21,7 +21,7 @@ use Rattle.names.proofs.Shows.{by_shown}
 
 -- of a check: a refusal has an entry
 checked_back : Answer → Checked
-checked_back a = if eqb (length a.values) 0 then checks.Sound else checks.Refused a.number (get_or a.values 0 0)
+checked_back a = when eqb (length a.values) 0 then checks.Sound else checks.Refused a.number (get_or a.values 0 0)
 
 checked-known : (v : Checked) → checked_back (checked_says v) ≡ v
 unfolding checked_back checked_says
@@ -33,10 +33,10 @@ checked-determined = determined checked_says checked_back checked-known
 
 -- of what is shown
 named_back : List ℕ → Shown
-named_back values = if eqb (length values) 0 then Nothing else if eqb (get_or values 0 0) 1 then Chosen (get_or values 1 0) else Italian (get_or values 1 0)
+named_back values = when eqb (length values) 0 then Nothing else when eqb (get_or values 0 0) 1 then Chosen (get_or values 1 0) else Italian (get_or values 1 0)
 
 shown_back : Answer → Shown
-shown_back a = if eqb a.number 0 then named_back a.values else Refused (get_or a.values 0 0) a.number (get_or a.values 1 0)
+shown_back a = when eqb a.number 0 then named_back a.values else Refused (get_or a.values 0 0) a.number (get_or a.values 1 0)
 
 -- a refusal has a number
 abbrev Numbered : Shown → Type 0

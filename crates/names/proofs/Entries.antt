@@ -9,7 +9,7 @@ use borrow.Author.Tests.{lt-ltb, le-ltb, leb-true, leb-false}
 use lib.Dec.{ltb, leb, eqb}
 use lib.ListN.{length, get_or, take, drop, length-take, length-drop, drop_of_length-le}
 use lib.Seq.{drop-drop, get_or-drop, get_or-take, length-take-le, take-nil}
-use Rattle.octets.specs.Choice.{if◌then◌else◌}
+use Rattle.octets.specs.Choice.{when◌then◌else◌}
 use Rattle.names.specs.declared.Code.{Code}
 use Rattle.names.specs.Codes.{code}
 use Rattle.names.specs.Book.{code_of, length_of, size_of, name_of, walk, entries, in_order, fault_of}
@@ -94,7 +94,7 @@ module _ (s : List ℕ) (at : ℕ) where
 
     pub fault_fits : at + 3 + get_or s (at + 2) 0 ≤ length s
         → fault_of number before (entry_at s at)
-        ≡ (if eqb (get_or s (at + 2) 0) 0 then 3 else if ltb 40 (get_or s (at + 2) 0) then 3 else if not (in_order number before (code_of (entry_at s at))) then 4 else 0)
+        ≡ (when eqb (get_or s (at + 2) 0) 0 then 3 else when ltb 40 (get_or s (at + 2) 0) then 3 else when not (in_order number before (code_of (entry_at s at))) then 4 else 0)
     unfolding fault_of
     fault_fits h = rw (le-ltb (length (entry_at s at)) (size_of (entry_at s at)) (omega (arith, entry_whole h, length_of_law)), length_of_law)
 

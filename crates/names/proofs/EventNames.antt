@@ -9,7 +9,7 @@ use borrow.Author.Tests.{lt-ltb, ltb-true, ltb-false}
 use lib.Dec.{ltb}
 use lib.ListN.{length, get_or, take, drop, length-drop, take-append-drop}
 use lib.Seq.{length-take-le}
-use Rattle.octets.specs.Choice.{if◌then◌else◌}
+use Rattle.octets.specs.Choice.{when◌then◌else◌}
 use Rattle.octets.proofs.Choice.{either, if_both}
 use Rattle.octets.proofs.Outcome.{never}
 use Rattle.names.specs.declared.Code.{Code}
@@ -104,7 +104,7 @@ module _ (wanted : Code) {book : List ℕ} (b : SoundBook book) where
 
 -- by the numbers of the code's entries alone
 by_numbers : ℕ → ℕ → Shown
-by_numbers m n = if ltb 0 m then Chosen m else if ltb 0 n then Italian n else Nothing
+by_numbers m n = when ltb 0 m then Chosen m else when ltb 0 n then Italian n else Nothing
 
 shown_by : (p q : Place) → (from_either p q).shown ≡ by_numbers p.number q.number
 unfolding from_either by_numbers

@@ -9,7 +9,7 @@ use borrow.Author.Tests.{leb-true, leb-false, eq-eqb, eqb-true}
 use lib.Dec.{leb, eqb}
 use lib.ListN.{length, get_or, take, drop}
 use lib.Seq.{get_or-take, take-add}
-use Rattle.octets.specs.Choice.{if◌then◌else◌}
+use Rattle.octets.specs.Choice.{when◌then◌else◌}
 use Rattle.octets.proofs.Choice.{either, not_both}
 use Rattle.octets.proofs.Outcome.{never}
 use Rattle.names.specs.declared.Code.{Code}
@@ -25,7 +25,7 @@ pub same_code_law : (a b : Code) → same_code a b ≡ true → a ≡ b
 unfolding same_code
 same_code_law a b e = by_test (eqb a.spa b.spa) refl e
   where
-    by_test : (t : Bool) → eqb a.spa b.spa ≡ t → (if t then eqb a.spq b.spq else false) ≡ true → a ≡ b
+    by_test : (t : Bool) → eqb a.spa b.spa ≡ t → (when t then eqb a.spq b.spq else false) ≡ true → a ≡ b
     by_test true f e = ap (λ (x : ℕ). code x a.spq) (eqb-true a.spa b.spa f) ∙ ap (code b.spa) (eqb-true a.spq b.spq e)
     by_test false f e = absurd (not_both refl e)
 

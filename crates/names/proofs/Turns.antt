@@ -8,7 +8,7 @@ use native.Mathlib.Omega.{arith}
 use borrow.Author.Tests.{lt-ltb, eq-eqb, ne_eqb}
 use lib.Dec.{ltb}
 use lib.ListN.{length, get_or}
-use Rattle.octets.specs.Choice.{if◌then◌else◌}
+use Rattle.octets.specs.Choice.{when◌then◌else◌}
 use Rattle.names.specs.declared.Code.{Code}
 use Rattle.names.specs.declared.Place.{Place}
 use Rattle.names.specs.declared.Passed.TheVariants.{Refused, Read}
@@ -29,13 +29,13 @@ kept_none later = refl
 
 -- found before, or here, or later
 pub kept_on : (found new later : Place) (here : Bool) → 0 < new.number
-    → kept (kept found (if here then new else none)) later ≡ kept found (if here then new else later)
+    → kept (kept found (when here then new else none)) later ≡ kept found (when here then new else later)
 unfolding kept
 kept_on found new later here h = by_test (ltb 0 found.number) refl here
   where
     by_test : (t : Bool) → ltb 0 found.number ≡ t → (here : Bool)
-        → (if ltb 0 (if t then found else if here then new else none).number then (if t then found else if here then new else none) else later)
-        ≡ (if t then found else if here then new else later)
+        → (when ltb 0 (when t then found else when here then new else none).number then (when t then found else when here then new else none) else later)
+        ≡ (when t then found else when here then new else later)
     by_test true f here = rw f
     by_test false f true = rw (lt-ltb 0 new.number h)
     by_test false f false = refl
@@ -62,7 +62,7 @@ module _ (wanted : Code) (s : List ℕ) where
 
     pub pass_step : 0 < number → at < length s → fault_of number before (entry_at s at) ≡ 0
         → pass_from wanted s (at + (3 + get_or s (at + 2) 0)) (number + 1) (code_of (entry_at s at))
-        (kept found (if same_code (code_of (entry_at s at)) wanted then place number (at + 3) (get_or s (at + 2) 0) else none))
+        (kept found (when same_code (code_of (entry_at s at)) wanted then place number (at + 3) (get_or s (at + 2) 0) else none))
         ≡ pass_from wanted s at number before found
     unfolding pass_from first_fault find_in
     pass_step h k e =

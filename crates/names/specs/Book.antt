@@ -2,7 +2,7 @@
 -- without equals"; "names its first faulty entry by number from 1, 0 for refusal 1. Refusals: book 1 empty or not version 1, 2 cut, 3 name empty or too
 -- long, 4 order; by place in the book, then by number". Any octets are a book, sound or refused. Assumes nothing.
 use Rattle.std.specs.Prelude.{ℕ, zero, suc, ◌+◌, Bool, true, not, List, [], ◌∷◌, ltb, eqb, length, get_or, take, drop}
-use Rattle.octets.specs.Choice.{if◌then◌else◌}
+use Rattle.octets.specs.Choice.{when◌then◌else◌}
 use Rattle.octets.specs.First.{◌⇒◌▸◌, first_of◌else◌}
 use Rattle.names.specs.declared.Code.{Code}
 use Rattle.names.specs.declared.Checked.{Checked}
@@ -38,7 +38,7 @@ entries_of book = entries (drop 1 book)
 
 -- a code in the entry of a number, behind the code of the entry before; the first entry has none before it
 unfoldable pub in_order : ℕ → Code → Code → Bool
-in_order number before own = if eqb number 1 then true else rises_to before own
+in_order number before own = when eqb number 1 then true else rises_to before own
 
 -- what is wrong with an entry, by the refusals' numbers; 0 where nothing is
 unfoldable pub fault_of : ℕ → Code → List ℕ → ℕ
@@ -55,9 +55,9 @@ fault_of number before e =
 unfoldable pub first_fault : ℕ → Code → List (List ℕ) → Checked
 first_fault number before [] = Sound
 first_fault number before (e ∷ es) =
-    if eqb (fault_of number before e) 0 then first_fault (number + 1) (code_of e) es else
+    when eqb (fault_of number before e) 0 then first_fault (number + 1) (code_of e) es else
     Refused (fault_of number before e) number
 
 -- an empty book has no version
 unfoldable pub checked : List ℕ → Checked
-checked book = if eqb (get_or book 0 0) 1 then first_fault 1 (code 0 0) (entries_of book) else Refused 1 0
+checked book = when eqb (get_or book 0 0) 1 then first_fault 1 (code 0 0) (entries_of book) else Refused 1 0

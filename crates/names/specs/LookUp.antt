@@ -1,7 +1,7 @@
 -- What a look-up comes to. Document 02, #103: "Given a code pair, the handheld shows, without copying, the name from the chosen book, or from the Italian
 -- book if the chosen one has none"; "a lookup checks the chosen book, then the Italian one. A pair in neither book returns no name". Assumes nothing.
 use Rattle.std.specs.Prelude.{ℕ, ◌+◌, ◌-◌, List, [], ◌∷◌, ltb, get_or, take, drop}
-use Rattle.octets.specs.Choice.{if◌then◌else◌}
+use Rattle.octets.specs.Choice.{when◌then◌else◌}
 use Rattle.names.specs.declared.Code.{Code}
 use Rattle.names.specs.declared.Checked.{Checked}
 use Rattle.names.specs.declared.Checked.TheVariants as checks
@@ -23,7 +23,7 @@ none = place 0 0 0
 unfoldable pub find_in : Code → ℕ → ℕ → List (List ℕ) → Place
 find_in wanted number at [] = none
 find_in wanted number at (e ∷ es) =
-    if same_code (code_of e) wanted then place number (at + 3) (length_of e) else
+    when same_code (code_of e) wanted then place number (at + 3) (length_of e) else
     find_in wanted (number + 1) (at + size_of e) es
 
 -- the entry of a code in a book: the first entry stands at 1, behind the version
@@ -41,8 +41,8 @@ unless_refused book (checks.Refused number entry) else-shown = showing (Refused 
 -- the name from the chosen book, or from the Italian one if the chosen one has none
 unfoldable pub from_either : Place → Place → LookedUp
 from_either chosen italian =
-    if ltb 0 chosen.number then showing (Chosen chosen.number) chosen.at chosen.many else
-    if ltb 0 italian.number then showing (Italian italian.number) italian.at italian.many else
+    when ltb 0 chosen.number then showing (Chosen chosen.number) chosen.at chosen.many else
+    when ltb 0 italian.number then showing (Italian italian.number) italian.at italian.many else
     showing Nothing 0 0
 
 -- book 1 is the chosen one, book 2 the Italian one

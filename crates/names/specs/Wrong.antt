@@ -1,7 +1,7 @@
 -- Wrong checks and look-ups, each shut out by a statement of `EventNames` and let through by another: why each of them is needed.
 -- Assumes nothing.
 use Rattle.std.specs.Prelude.{ℕ, ◌+◌, Bool, true, false, ◌&&◌, List, [], ◌∷◌, ltb, eqb}
-use Rattle.octets.specs.Choice.{if◌then◌else◌}
+use Rattle.octets.specs.Choice.{when◌then◌else◌}
 use Rattle.names.specs.declared.Checked.TheVariants as checks
 use Rattle.names.specs.declared.Shown.{Shown}
 use Rattle.names.specs.declared.Shown.TheVariants.{Refused, Chosen, Italian, Nothing}
@@ -39,10 +39,10 @@ same_name (x ∷ xs) (y ∷ ys) = eqb x y && same_name xs ys
 
 unfoldable pub entry_named : List ℕ → ℕ → List (List ℕ) → ℕ
 entry_named name number [] = 0
-entry_named name number (e ∷ es) = if same_name (name_of e) name then number else entry_named name (number + 1) es
+entry_named name number (e ∷ es) = when same_name (name_of e) name then number else entry_named name (number + 1) es
 
 unfoldable pub by_name : LookUp
 by_name wanted chosen italian =
-    if ltb 0 (entry_named (name_in (find wanted italian).number italian) 1 (entries_of chosen)) then
+    when ltb 0 (entry_named (name_in (find wanted italian).number italian) 1 (entries_of chosen)) then
     Chosen (entry_named (name_in (find wanted italian).number italian) 1 (entries_of chosen)) else
     shown_for wanted chosen italian

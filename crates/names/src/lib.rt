@@ -1,7 +1,7 @@
 #![tactic(auto)]
 // Books of event names for the handheld: a book is checked, and the name of an event's code is handed back as a part of one of two lent books.
 ghost use Rattle.std.specs.Prelude.{◌≡◌, ◌+◌, ◌≤◌, length};
-ghost use Rattle.octets.specs.Choice.{if◌then◌else◌};
+ghost use Rattle.octets.specs.Choice.{when◌then◌else◌};
 ghost use Rattle.names.specs.Codes.{code_of_event, same_code};
 ghost use Rattle.names.specs.Book.{code_of, in_order, fault_of, checked};
 ghost use Rattle.names.specs.LookUp.{none, looked_up, name_shown, cut_out};
@@ -127,7 +127,7 @@ fn fault_at(book: &[u8], at: usize, number: usize, before: Code) -> u8
 
 // What was found before stays.
 fn keep(found: Place, here: bool, new: Place) -> Place
-    ensures { result ≡ kept found (if here then new else none) }
+    ensures { result ≡ kept found (when here then new else none) }
 {
     if 0 < found.number {
         return found;

@@ -1,7 +1,7 @@
 -- What this crate's own calls leave where it may not fit: of a lent buffer, and of octets that are kept. The card's definition does without it.
 -- Assumes nothing.
 use Rattle.std.specs.Prelude.{ℕ, ◌+◌, Bool, List, length, nat_le}
-use Rattle.octets.specs.Choice.{if◌then◌else◌}
+use Rattle.octets.specs.Choice.{when◌then◌else◌}
 use Rattle.octets.specs.Over.{over}
 use Rattle.octets.specs.declared.Kept.{Kept}
 
@@ -11,10 +11,10 @@ fits_at under at top = nat_le (at + length top) (length under)
 
 -- what writing leaves of the buffer: `top` over it, or all as it was where that does not fit
 abbrev pub put_into : List ℕ → ℕ → List ℕ → List ℕ
-put_into under at top = if fits_at under at top then over under at top else under
+put_into under at top = when fits_at under at top then over under at top else under
 
 -- more octets behind those that count; what does not fit leaves all as it was
 unfoldable pub added : Kept → List ℕ → Kept
 added k top =
-    if nat_le (k.length + length top) 252 then record { octets = over k.octets k.length top; length = k.length + length top } else
+    when nat_le (k.length + length top) 252 then record { octets = over k.octets k.length top; length = k.length + length top } else
     k

@@ -1,7 +1,7 @@
 -- The first that applies: rules in the paper's order, each a test and what it gives.
 -- Assumes nothing.
 use Rattle.std.specs.Prelude.{Bool, List, [], ◌∷◌}
-use Rattle.octets.specs.Choice.{if◌then◌else◌}
+use Rattle.octets.specs.Choice.{when◌then◌else◌}
 
 pub record When {ℓ} (A : Type ℓ) : Type ℓ where
   pub test : Bool
@@ -16,4 +16,4 @@ abbrev pub ◌⇒◌▸◌ {ℓ} : {A : Type ℓ} → Bool → A → List (When 
 infixr 1 first_of◌else◌
 abbrev pub first_of◌else◌ {ℓ} : {A : Type ℓ} → List (When A) → A → A
 first_of [] else other = other
-first_of (rule ∷ rules) else other = if rule.test then rule.gives else first_of rules else other
+first_of (rule ∷ rules) else other = when rule.test then rule.gives else first_of rules else other

@@ -5,7 +5,7 @@ use stream::{Texts, Window};
 use turns::Left;
 
 // What is kept between two turns: the card, what has been read of the runs to come, and the texts that wait.
-#[derive(Drop)]
+#[derive(Clone, Copy)]
 struct Talk {
     card: Card,
     rest: Window,

@@ -1,7 +1,7 @@
 -- The lines that the programs write, and what writing one into a lent buffer answers and leaves.
 -- Assumes nothing.
 use Rattle.std.specs.Prelude.{ℕ, ◌+◌, ◌≤◌, List, [], ◌∷◌, ◌++◌, ◌≡◌, length, take}
-use Rattle.octets.specs.Choice.{if◌then◌else◌}
+use Rattle.octets.specs.Choice.{when◌then◌else◌}
 use Rattle.octets.specs.Over.{over, laid_in, Does}
 use Rattle.octets.specs.Calls.{fits_at}
 use Rattle.deeds.specs.declared.Order.{Order}
@@ -59,7 +59,7 @@ gap_line number count order time damaged buffer =
 
 -- of a text that does not fit into a buffer nothing is written
 abbrev pub fitting : List ℕ → List ℕ → List ℕ
-fitting under text = if fits_at under 0 text then text else []
+fitting under text = when fits_at under 0 text then text else []
 
 -- `Lined under text count left`: what fits stands in the first octets of the buffer, the rest unchanged, and its length is answered
 abbrev pub Lined : List ℕ → List ℕ → ℕ → List ℕ → Type 0

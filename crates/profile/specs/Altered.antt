@@ -1,7 +1,7 @@
 -- A run in which bits were altered. #104: "a sound frame in which one, two or three data or parity bits were altered, the number of characters kept".
 -- Assumes nothing.
 use Rattle.std.specs.Prelude.{ℕ, ◌+◌, ◌-◌, ◌/◌, ◌%◌, ◌^◌, ◌≤◌, ◌<◌, not, List, [], ◌∷◌, ◌≡◌, eqb, ltb, length, get_or, set}
-use Rattle.octets.specs.Choice.{if◌then◌else◌}
+use Rattle.octets.specs.Choice.{when◌then◌else◌}
 use Rattle.profile.specs.declared.Character.{Character}
 use Rattle.profile.specs.Character.{rightly}
 
@@ -12,11 +12,11 @@ pub record Place : Type 0 where
 
 -- a bit of a number altered, counted from 0, the lowest first: a 0 becomes a 1, a 1 becomes a 0
 unfoldable pub with_bit : ℕ → ℕ → ℕ
-with_bit bit number = if eqb (number / 2 ^ bit % 2) 0 then number + 2 ^ bit else number - 2 ^ bit
+with_bit bit number = when eqb (number / 2 ^ bit % 2) 0 then number + 2 ^ bit else number - 2 ^ bit
 
 unfoldable pub with_bit_of : ℕ → Character → Character
 with_bit_of bit c =
-    if ltb bit 8 then record { octet = with_bit bit c.octet; parity = c.parity } else
+    when ltb bit 8 then record { octet = with_bit bit c.octet; parity = c.parity } else
     record { octet = c.octet; parity = not c.parity }
 
 -- the bit at a place of a run altered; and at each of some places

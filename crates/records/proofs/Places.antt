@@ -8,7 +8,7 @@ use native.Mathlib.Nat.{add_assoc}
 use native.Mathlib.Omega.{arith}
 use lib.ListN.{length, get_or, take, drop, length-append}
 use lib.Seq.{drop-append_seam, drop-append-le, take-add, drop-drop}
-use Rattle.octets.specs.Choice.{if◌then◌else◌}
+use Rattle.octets.specs.Choice.{when◌then◌else◌}
 use Rattle.octets.proofs.Choice.{if_both}
 use Rattle.records.specs.Records.{is_whole, records, whole_at, record_at, records_from, place_after}
 use Rattle.records.specs.Said.{every, keep, how_many, places_of}
@@ -59,9 +59,9 @@ nth_hit f (none e) n h = absurd (omega arith)
 nth_hit {s} {at} f (one {rs = rs} e l) n h = by_test (λ m k. rw (after_whole s at e) at (nth_hit f l m k)) (f (record_at s at)) refl n h
   where
     by_test : ((n : ℕ) → n < length (keep f rs) → Hit f s (get_or (keep f rs) n []) (get_or (places_of f (at + length (record_at s at)) rs) n 0))
-        → (t : Bool) → f (record_at s at) ≡ t → (n : ℕ) → n < length (if t then record_at s at ∷ keep f rs else keep f rs)
-        → Hit f s (get_or (if t then record_at s at ∷ keep f rs else keep f rs) n [])
-        (get_or (if t then at ∷ places_of f (at + length (record_at s at)) rs else places_of f (at + length (record_at s at)) rs) n 0)
+        → (t : Bool) → f (record_at s at) ≡ t → (n : ℕ) → n < length (when t then record_at s at ∷ keep f rs else keep f rs)
+        → Hit f s (get_or (when t then record_at s at ∷ keep f rs else keep f rs) n [])
+        (get_or (when t then at ∷ places_of f (at + length (record_at s at)) rs else places_of f (at + length (record_at s at)) rs) n 0)
     by_test rest true p zero h = record { whole_there = e; stands_there = refl; passes = p }
     by_test rest true p (suc n) h = rest n (omega arith)
     by_test rest false p n h = rest n h

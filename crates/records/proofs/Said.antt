@@ -6,7 +6,7 @@ use mathlib.Core.List.{List, [], ◌∷◌}
 use mathlib.Core.Path.{◌≡◌, refl, ap, ◌∙◌}
 use native.Mathlib.Omega.{arith}
 use lib.ListN.{length, get_or}
-use Rattle.octets.specs.Choice.{if◌then◌else◌}
+use Rattle.octets.specs.Choice.{when◌then◌else◌}
 use Rattle.octets.proofs.Choice.{not_both}
 use Rattle.octets.proofs.Conditions.{and_left, and_right}
 use Rattle.records.specs.Records.{whole_at, record_at, records_from, place_after}
@@ -20,7 +20,7 @@ module _ (f : List ℕ → Bool) (s : List ℕ) (at : ℕ) where
 
   places_more : whole_at s at ≡ true
       → places_of f at (records_from s at)
-      ≡ (if f (record_at s at) then at ∷ places_of f (place_after s at) (records_from s (place_after s at)) else places_of f (place_after s at) (records_from s (place_after s at)))
+      ≡ (when f (record_at s at) then at ∷ places_of f (place_after s at) (records_from s (place_after s at)) else places_of f (place_after s at) (records_from s (place_after s at)))
   unfolding places_of
   places_more e = rw (from_more s at e, after_whole s at e)
 
@@ -65,7 +65,7 @@ keep_within f g so [] = refl
 keep_within f g so (r ∷ rs) = by_tests (keep_within f g so rs) (g r) (f r) refl refl
   where
     by_tests : keep f (keep g rs) ≡ keep f rs → (t u : Bool) → g r ≡ t → f r ≡ u
-        → keep f (if t then r ∷ keep g rs else keep g rs) ≡ (if u then r ∷ keep f rs else keep f rs)
+        → keep f (when t then r ∷ keep g rs else keep g rs) ≡ (when u then r ∷ keep f rs else keep f rs)
     by_tests rest true true p q = rw q (ap (r ∷◌) rest)
     by_tests rest true false p q = rw q rest
     by_tests rest false true p q = absurd (not_both p (so r q))

@@ -1,18 +1,18 @@
 -- The records of any octets. Document 01, "The meter image": each a 2-octet length, a kind and a body; the length counts kind and body.
 -- Assumes nothing.
 use Rattle.std.specs.Prelude.{ℕ, zero, suc, ◌+◌, Bool, true, false, List, [], ◌∷◌, ltb, leb, eqb, length, get_or, take, drop}
-use Rattle.octets.specs.Choice.{if◌then◌else◌}
+use Rattle.octets.specs.Choice.{when◌then◌else◌}
 use Rattle.octets.specs.Conditions.{holds}
 use Rattle.octets.specs.Numbers.{high_first}
 
 -- the length that a record of each kind has; 0 for what is no kind
 unfoldable pub length_of : ℕ → ℕ
 length_of kind =
-    if eqb kind 1 then 9 else
-    if eqb kind 2 then 7 else
-    if eqb kind 3 then 11 else
-    if eqb kind 4 then 39 else
-    if eqb kind 5 then 13 else
+    when eqb kind 1 then 9 else
+    when eqb kind 2 then 7 else
+    when eqb kind 3 then 11 else
+    when eqb kind 4 then 39 else
+    when eqb kind 5 then 13 else
     0
 
 -- of the record that stands first: its kind, and how many octets it takes with those of its length
@@ -46,7 +46,7 @@ records_from s at = records (drop at s)
 
 -- its kind, and the place after it; where none is whole, kind 0 and the place itself
 unfoldable pub kind_at : List ℕ → ℕ → ℕ
-kind_at s at = if whole_at s at then get_or s (at + 2) 0 else 0
+kind_at s at = when whole_at s at then get_or s (at + 2) 0 else 0
 
 unfoldable pub place_after : List ℕ → ℕ → ℕ
-place_after s at = if whole_at s at then at + length (record_at s at) else at
+place_after s at = when whole_at s at then at + length (record_at s at) else at

@@ -1,7 +1,7 @@
 #![tactic(auto)]
 // Requests: the first rule of document 01 that applies to a message.
 ghost use Rattle.std.specs.Prelude.{◌&&◌, not, false, ◌≡◌, eqb};
-ghost use Rattle.octets.specs.Choice.{if◌then◌else◌};
+ghost use Rattle.octets.specs.Choice.{when◌then◌else◌};
 ghost use Rattle.message.specs.declared.RowFound.TheVariants as found;
 ghost use Rattle.message.specs.Requests.{objects_offered};
 ghost use Rattle.message.specs.Table.{table, row_in};
@@ -225,7 +225,7 @@ fn does_open(found: PointFound, password: u32) -> bool
 
 // A rule, unless what it asks holds.
 fn unless(holds: bool, rule: Rule) -> Rule
-    ensures { result ≡ (if not holds then rule else Accepted) }
+    ensures { result ≡ (when not holds then rule else Accepted) }
 {
     if holds {
         return Rule::Accepted;
@@ -242,7 +242,7 @@ fn ranged(
     range: Rule,
     none: Rule,
 ) -> Rule
-    ensures { result ≡ (if not (labels_valid request) then label else if first_after_last request then range else if none_in query image.now then none else Accepted) }
+    ensures { result ≡ (when not (labels_valid request) then label else when first_after_last request then range else when none_in query image.now then none else Accepted) }
 {
     if are_labels_valid(request) {
         if is_first_after_last(request) {
@@ -257,7 +257,7 @@ fn ranged(
 }
 
 fn for_readings(image: &[u8], request: Request) -> Rule
-    ensures { result ≡ (if not (objects_offered request.objects) then Objects else if not (labels_valid request) then ReadingLabel else if first_after_last request then ReadingRange else if none_in (Reading (span_of request)) image.now then NoReading else Accepted) }
+    ensures { result ≡ (when not (objects_offered request.objects) then Objects else when not (labels_valid request) then ReadingLabel else when first_after_last request then ReadingRange else when none_in (Reading (span_of request)) image.now then NoReading else Accepted) }
 {
     let objects = request.objects;
     if objects.are_offered() {
@@ -274,7 +274,7 @@ fn for_readings(image: &[u8], request: Request) -> Rule
 }
 
 fn for_switch(image: &[u8], request: Request) -> Rule
-    ensures { result ≡ (if not (dated (dates_found image.now)) then NoDates else if not (labels_valid request) then TimeLabel else Accepted) }
+    ensures { result ≡ (when not (dated (dates_found image.now)) then NoDates else when not (labels_valid request) then TimeLabel else Accepted) }
 {
     if is_dated(fields::dates_of(image)) {
         return unless(are_labels_valid(request), Rule::TimeLabel);
@@ -312,7 +312,7 @@ fn by_type(image: &[u8], clock: [u8; 7], request: Request) -> Rule
 
 // The rules from the shape on: what the row of its type asks of a message, and what its type does.
 fn by_row(image: &[u8], clock: [u8; 7], request: Request, row: Row) -> Rule
-    ensures { result ≡ (if not (shaped_as row request) then Shape else if not (addressed_as row.addresses request.header.record_address) then Address else by_type image.now clock request) }
+    ensures { result ≡ (when not (shaped_as row request) then Shape else when not (addressed_as row.addresses request.header.record_address) then Address else by_type image.now clock request) }
 {
     let addresses = row.addresses;
     if is_shaped(row, request) {

@@ -1,7 +1,7 @@
 -- Texts that wait to be written, in the first octets of a block.
 -- Assumes nothing.
 use Rattle.std.specs.Prelude.{ℕ, ◌+◌, Bool, true, false, List, ◌≡◌, length}
-use Rattle.octets.specs.Choice.{if◌then◌else◌}
+use Rattle.octets.specs.Choice.{when◌then◌else◌}
 use Rattle.octets.specs.Over.{over}
 use Rattle.octets.specs.Calls.{fits_at, put_into}
 use Rattle.stream.specs.declared.Texts.{Texts}
@@ -13,12 +13,12 @@ pub record Out (texts r : Texts) : Type 0 where
 
 -- what is left of the block when a text is put behind those that wait, or first
 abbrev pub added_to : List ℕ → ℕ → List ℕ → List ℕ
-added_to block count text = if fits_at block count text then over block count text else put_into block 0 text
+added_to block count text = when fits_at block count text then over block count text else put_into block 0 text
 
 -- `AddedFirst block texts text r left`: the others are written, and the text is the first that waits; one longer than the block is refused, and
 -- nothing more goes out
 pub record AddedFirst (block : List ℕ) (texts : Texts) (text : List ℕ) (r : Texts) (left : List ℕ) : Type 0 where
-  pub count : r.count ≡ (if fits_at block 0 text then length text else 0)
+  pub count : r.count ≡ (when fits_at block 0 text then length text else 0)
   pub left_so : left ≡ put_into block 0 text
   pub refused : fits_at block 0 text ≡ false → r.going ≡ false
   pub stays_stopped : texts.going ≡ false → r.going ≡ false

@@ -8,7 +8,7 @@ use native.Mathlib.Omega.{arith}
 use lib.Dec.{ltb, eqb}
 use lib.ListN.{length, drop, length-take}
 use borrow.Author.Tests.{le-ltb, ltb-false}
-use Rattle.octets.specs.Choice.{if◌then◌else◌}
+use Rattle.octets.specs.Choice.{when◌then◌else◌}
 use Rattle.octets.specs.First.{first_of◌else◌}
 use Rattle.octets.specs.declared.Kept.{Kept}
 use Rattle.octets.proofs.Choice.{not_both, if_both}
@@ -59,7 +59,7 @@ fault_ends card Spoiled = damaged refl refl
 
 -- 7: a service is refused exactly when it counts and there was no reset
 answer_ends : (card : Card) (user : Kept) (image clock : List ℕ) {service : Service} {a : Answered} → Way card.link user image clock service a
-    → Ends card (after_answer card a) (if is_counted (Is service) && not card.link.reset then 7 else 0)
+    → Ends card (after_answer card a) (when is_counted (Is service) && not card.link.reset then 7 else 0)
 unfolding after_answer answered_by noted carried replied_by left_with
 answer_ends card user image clock as_reset = answers refl refl
 answer_ends card user image clock as_status = answers refl refl
@@ -81,15 +81,15 @@ module _ (card : Card) (loan : Loan) where
 
   -- 6 and 7
   heard_ends : (asked : Asked) (user : List ℕ)
-      → ExaminedEnds (heard asked user) (if is_not_offered asked then 6 else if is_counted asked && not card.link.reset then 7 else 0)
+      → ExaminedEnds (heard asked user) (when is_not_offered asked then 6 else when is_counted asked && not card.link.reset then 7 else 0)
   unfolding after_examining
   heard_ends NotOffered user = gone refl refl
   heard_ends (Is service) user = answer_ends card _ loan.image loan.clock (way card.link _ loan.image loan.clock service)
 
   -- 5
   frame_ends : (f : Frame) → ExaminedEnds (examined_verdict loan.image (sound f))
-      (if not (is_link (identity_found loan.image) (link_of f)) then 5 else
-      if is_not_offered (asked_by f) then 6 else if is_counted (asked_by f) && not card.link.reset then 7 else 0)
+      (when not (is_link (identity_found loan.image) (link_of f)) then 5 else
+      when is_not_offered (asked_by f) then 6 else when is_counted (asked_by f) && not card.link.reset then 7 else 0)
   unfolding examined_frame after_examining
   frame_ends (fixed c a) =
       if_both ExaminedEnds (not (is_link (identity_found loan.image) (record { 0 = a }))) (λ t. gone refl refl) (λ t. heard_ends (offered form.Fixed c) [])
@@ -139,7 +139,7 @@ module _ {card : Card} where
   ends_number (gone k d) = refl
   ends_number (answers e d) = e
 
-  ends_counted : {o : Outcome} {n : ℕ} → Ends card o n → o.card.damaged ≡ (if is_damage o.number then one_more card.damaged else card.damaged)
+  ends_counted : {o : Outcome} {n : ℕ} → Ends card o n → o.card.damaged ≡ (when is_damage o.number then one_more card.damaged else card.damaged)
   unfolding refusal left_with
   ends_counted (kept k d) = rw d
   ends_counted (damaged k d) = rw d

@@ -11,7 +11,7 @@ use native.Mathlib.Omega.{arith}
 use borrow.Author.Tests.{eq-eqb, eqb-true}
 use lib.Dec.{ltb}
 use lib.ListN.{length, length-map, get_or-map}
-use Rattle.octets.specs.Choice.{if◌then◌else◌}
+use Rattle.octets.specs.Choice.{when◌then◌else◌}
 use Rattle.octets.specs.First.{When, first_of◌else◌}
 use Rattle.octets.specs.Sum.{octet_sum}
 use Rattle.octets.proofs.Choice.{either, not_both, refuted}
@@ -47,7 +47,7 @@ use Rattle.tender.proofs.Condition3.{left_none}
 use Rattle.tender.proofs.Repeats.{fresh_empty}
 
 -- the ones by the papers' numbers of the bits are those of the definition
-parity_one : (t : Bool) → (if t then 1 else 0) ≡ bit_of t
+parity_one : (t : Bool) → (when t then 1 else 0) ≡ bit_of t
 parity_one true = refl
 parity_one false = refl
 

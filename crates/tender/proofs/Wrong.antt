@@ -7,7 +7,7 @@ use mathlib.Core.Logic.{inl}
 use mathlib.Core.Path.{◌≡◌, refl, sym, ap, ◌∙◌}
 use native.Mathlib.Omega.{arith}
 use lib.ListN.{get_or, set}
-use Rattle.octets.specs.Choice.{if◌then◌else◌}
+use Rattle.octets.specs.Choice.{when◌then◌else◌}
 use Rattle.octets.specs.Keeping.{kept_of}
 use Rattle.frame.specs.declared.Fault.TheVariants.{Malformed}
 use Rattle.frame.specs.declared.Service.TheVariants.{Collection}
@@ -149,7 +149,7 @@ invents_a_count p c = omega (arith, sym its_count ∙ c.counts card_at_power_on 
     its_count : ((inventor p).calls.gap card_at_power_on lent).state.damaged ≡ 7
     its_count = refl
 
-    right_count : (if is_damage ((inventor p).calls.gap card_at_power_on lent).answer.number then one_more card_at_power_on.damaged else card_at_power_on.damaged) ≡ 0
+    right_count : (when is_damage ((inventor p).calls.gap card_at_power_on lent).answer.number then one_more card_at_power_on.damaged else card_at_power_on.damaged) ≡ 0
     right_count = refl
 
 -- by condition 2's count bit: with a new FCB it only repeats

@@ -4,7 +4,7 @@
 -- lies elsewhere; one that puts readings in order so and events not; one that chooses, or finds the first label after the last, by what the clocks show; and one that
 -- judges SU. Assumes nothing.
 use Rattle.std.specs.Prelude.{ℕ, ◌+◌, ◌<◌, Bool, true, false, not, ◌&&◌, List, [], ◌∷◌, map, ◌≡◌, eqb, ℤ, pos, negsuc, ◌-ℤ◌, length, get_or}
-use Rattle.octets.specs.Choice.{if◌then◌else◌}
+use Rattle.octets.specs.Choice.{when◌then◌else◌}
 use Rattle.label.specs.declared.LabelA.{LabelA}
 use Rattle.label.specs.declared.LabelB.{LabelB}
 use Rattle.label.specs.Label.{label_a_at, date_time_a, valid_a, su, instant, before_a, valid_b, before_b, parts_a}
@@ -127,7 +127,7 @@ examples =
 
 -- how two labels lie, by the definition
 abbrev pub lies_to : LabelA → LabelA → Lies
-lies_to l l' = if before_a l l' then before else if before_a l' l then behind else at_once
+lies_to l l' = when before_a l l' then before else when before_a l' l then behind else at_once
 
 abbrev pub worked : Example → Example
 worked e =

@@ -3,7 +3,7 @@
 -- card that is left. So it shuts out a definition that opens no session for the right password, sets the clock with every ACK, counts no damaged
 -- run, leaves the run in the collector, or powers on reset: a list of numbers and replies alone does not. Assumes nothing.
 use Rattle.std.specs.Prelude.{ℕ, Bool, true, false, List, [], ◌∷◌, map, length, replicate}
-use Rattle.octets.specs.Choice.{if◌then◌else◌}
+use Rattle.octets.specs.Choice.{when◌then◌else◌}
 use Rattle.octets.specs.Over.{laid_in}
 use Rattle.address.specs.declared.LinkAddress.{LinkAddress}
 use Rattle.address.specs.declared.PointAddress.{PointAddress}
@@ -75,7 +75,7 @@ outcomes_from p card (t ∷ turns) =
 
 abbrev pub said_of : Profile → Case → Said
 said_of p (conversation turns) = outcomes (outcomes_from p card_at_power_on turns)
-said_of p (label octets valid parts) = numbers ((if valid_a (label_a_at octets 0) then 1 else 0) ∷ parts_a (label_a_at octets 0))
+said_of p (label octets valid parts) = numbers ((when valid_a (label_a_at octets 0) then 1 else 0) ∷ parts_a (label_a_at octets 0))
 said_of p (beginning octets parts) = numbers (second (label_b_at octets 0) ∷ millisecond (label_b_at octets 0) ∷ [])
 
 -- what document 01 says of it

@@ -3,7 +3,7 @@
 -- "May be given", "each call ends": the card's calls are functions of every card, character, image, clock and buffer (`CallsOf`); that the code's are
 -- too, and end, is what its proof means. The other clauses are the fields of `Condition1`. Assumes nothing.
 use Rattle.std.specs.Prelude.{ℕ, Bool, true, false, not, ◌&&◌, ◌||◌, List, [], ◌≡◌, ltb, eqb, length}
-use Rattle.octets.specs.Choice.{if◌then◌else◌}
+use Rattle.octets.specs.Choice.{when◌then◌else◌}
 use Rattle.octets.specs.First.{When, ◌⇒◌▸◌, first_of◌else◌}
 use Rattle.history.specs.History.{Stepped}
 use Rattle.address.specs.declared.LinkAddress.{LinkAddress}
@@ -88,4 +88,4 @@ pub record Condition1 {p : Profile} (c : AnyCard p) : Type 0 where
 -- an answered frame and of the others this alone does
 pub record Counted {p : Profile} (c : AnyCard p) : Type 0 where
   pub counts : (card : Card) (loan : Loan)
-      → (c.calls.gap card loan).state.damaged ≡ (if is_damage (c.calls.gap card loan).answer.number then one_more card.damaged else card.damaged)
+      → (c.calls.gap card loan).state.damaged ≡ (when is_damage (c.calls.gap card loan).answer.number then one_more card.damaged else card.damaged)

@@ -5,7 +5,7 @@
 -- Assumes nothing.
 use Rattle.std.specs.Prelude.{ℕ, ◌+◌, ◌%◌, ◌≤◌, ◌<◌, true, false, List, map, ◌⊎◌, ◌≡◌, length, get_or}
 use Rattle.octets.specs.Bits.{bits◌to◌of◌}
-use Rattle.octets.specs.Choice.{if◌then◌else◌}
+use Rattle.octets.specs.Choice.{when◌then◌else◌}
 use Rattle.history.specs.History.{Stepped, AllFit, AtGaps}
 use Rattle.frame.specs.Family.{sapr}
 use Rattle.frame.specs.Frame.{Frame, sound}
@@ -25,7 +25,7 @@ abbrev pub data_bit : ℕ → Character → ℕ
 data_bit n x = bits n to n of x.octet
 
 abbrev pub nine_ones : Character → ℕ
-nine_ones x = data_bit 1 x + data_bit 2 x + data_bit 3 x + data_bit 4 x + data_bit 5 x + data_bit 6 x + data_bit 7 x + data_bit 8 x + (if x.parity then 1 else 0)
+nine_ones x = data_bit 1 x + data_bit 2 x + data_bit 3 x + data_bit 4 x + data_bit 5 x + data_bit 6 x + data_bit 7 x + data_bit 8 x + (when x.parity then 1 else 0)
 
 -- the parity bit of the character at a place of a run, counted from 0, is wrong
 abbrev pub character_at : List Character → ℕ → Character

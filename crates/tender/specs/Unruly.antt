@@ -1,7 +1,7 @@
 -- Unruly cards: each does what ours does but for one thing, which a rule of `Rules` or a statement of `Why` forbids.
 -- Assumes nothing.
 use Rattle.std.specs.Prelude.{ℕ, Bool, ◌||◌, eqb, ltb, get_or}
-use Rattle.octets.specs.Choice.{if◌then◌else◌}
+use Rattle.octets.specs.Choice.{when◌then◌else◌}
 use Rattle.frame.specs.Writing.{reply_octets}
 use Rattle.rules.specs.declared.Session.{Session}
 use Rattle.rules.specs.declared.Session.TheVariants.{Closed, Open}
@@ -28,17 +28,17 @@ with_session session card = linked_by (in_session session card.link) card
 
 -- a status closes the session
 abbrev pub closing_at_status : GapCall
-closing_at_status = gap_leaving (λ card loan seen left. if eqb (octet_at 1 card) 0x49 then with_session Closed left else left)
+closing_at_status = gap_leaving (λ card loan seen left. when eqb (octet_at 1 card) 0x49 then with_session Closed left else left)
 
 -- a NACK, whose control octet stands in the buffer, drops what waits
 abbrev pub dropping_at_nack : GapCall
 dropping_at_nack =
-    gap_leaving (λ card loan seen left. if eqb (get_or seen.buffer 1 0) 0x01 then linked_by (awaiting nothing_pending left.link) left else left)
+    gap_leaving (λ card loan seen left. when eqb (get_or seen.buffer 1 0) 0x01 then linked_by (awaiting nothing_pending left.link) left else left)
 
 -- a collection gets 09, whatever waits
 abbrev pub giving_nothing : GapCall
 giving_nothing card loan =
-    if is_collection card then says (our_gap card loan).state 0 (reply_octets (nothing_to_give loan)) loan.buffer else
+    when is_collection card then says (our_gap card loan).state 0 (reply_octets (nothing_to_give loan)) loan.buffer else
     our_gap card loan
 
 -- a 181 sets the clock, also when it is repeated
@@ -51,7 +51,7 @@ ordering_again card loan =
           record {
             number = x.answer.number;
             count = x.answer.count;
-            order = if eqb (octet_at 7 card) 181 then SetClock else x.answer.order;
+            order = when eqb (octet_at 7 card) 181 then SetClock else x.answer.order;
             time = x.answer.time;
             buffer = x.answer.buffer;
           };
@@ -59,15 +59,15 @@ ordering_again card loan =
 
 -- a 187 leaves the session open
 abbrev pub staying_open : GapCall
-staying_open = gap_leaving (λ card loan seen left. if eqb (octet_at 7 card) 187 then with_session card.link.session left else left)
+staying_open = gap_leaving (λ card loan seen left. when eqb (octet_at 7 card) 187 then with_session card.link.session left else left)
 
 -- a collection closes the session
 abbrev pub closing_at_collection : GapCall
-closing_at_collection = gap_leaving (λ card loan seen left. if is_collection card then with_session Closed left else left)
+closing_at_collection = gap_leaving (λ card loan seen left. when is_collection card then with_session Closed left else left)
 
 -- every refusal by cause has cause 14
 abbrev pub fourteen : Waiting → Waiting
-fourteen (Mirror cause) = Mirror (if ltb cause 13 then cause else 14)
+fourteen (Mirror cause) = Mirror (when ltb cause 13 then cause else 14)
 fourteen NoReply = NoReply
 fourteen Denied = Denied
 fourteen Begin = Begin
@@ -84,4 +84,4 @@ always_fourteen =
 
 -- every 183 opens the session of point 1, also one that is refused
 abbrev pub opening_anyway : GapCall
-opening_anyway = gap_leaving (λ card loan seen left. if eqb (octet_at 7 card) 183 then with_session (Open (record { 0 = 1 })) left else left)
+opening_anyway = gap_leaving (λ card loan seen left. when eqb (octet_at 7 card) 183 then with_session (Open (record { 0 = 1 })) left else left)

@@ -1,7 +1,7 @@
 -- Wrong cards: those that document 01 names, others that a tired engineer could write, and others that looser conditions let through.
 -- Assumes nothing.
 use Rattle.std.specs.Prelude.{◌-◌, Bool, true, false, ◌&&◌, ◌||◌, [], ◌∷◌, ◌++◌, eqb, length, get_or, take, replicate, set}
-use Rattle.octets.specs.Choice.{if◌then◌else◌}
+use Rattle.octets.specs.Choice.{when◌then◌else◌}
 use Rattle.frame.specs.Writing.{reply_octets}
 use Rattle.profile.specs.declared.Profile.{Profile}
 use Rattle.profile.specs.declared.Profile.TheVariants.{Eleven}
@@ -60,7 +60,7 @@ idler = with_gap (λ card loan. says card 1 [] loan.buffer)
 abbrev pub repeater : WrongCard
 repeater =
     with_gap (λ card loan.
-    if card.link.reset then says card 0 (reply_octets card.link.remembered) loan.buffer else
+    when card.link.reset then says card 0 (reply_octets card.link.remembered) loan.buffer else
     our_gap card loan)
 
 -- the same, but polite: it repeats at frames that ours answers, and leaves all else to ours, so that noise goes unanswered. A condition 3 that
@@ -68,7 +68,7 @@ repeater =
 abbrev pub polite_repeater : WrongCard
 polite_repeater =
     with_gap (λ card loan.
-    if card.link.reset && eqb (our_gap card loan).answer.number 0
+    when card.link.reset && eqb (our_gap card loan).answer.number 0
     then says (linked_by card.link (our_gap card loan).state) 0 (reply_octets card.link.remembered) loan.buffer
     else our_gap card loan)
 
@@ -108,19 +108,19 @@ inventor = leaving (λ card loan seen left. record { collector = left.collector;
 abbrev pub clinger : WrongCard
 clinger =
     leaving (λ card loan seen left.
-    if eqb (get_or card.collector.octets 1 0) 0x40 then linked_by (in_session card.link.session left.link) left else
+    when eqb (get_or card.collector.octets 1 0) 0x40 then linked_by (in_session card.link.session left.link) left else
     left)
 
 -- a spoiled frame advances the count bit
 abbrev pub stumbler : WrongCard
 stumbler =
     leaving (λ card loan seen left.
-    if eqb seen.number 4 then linked_by (after_new (1 - card.link.fcb) card.link.remembered left.link.session left.link.pending left.link) left else
+    when eqb seen.number 4 then linked_by (after_new (1 - card.link.fcb) card.link.remembered left.link.session left.link.pending left.link) left else
     left)
 
 -- a run that is not the form of a frame stays in the collector. A condition 1 without `run_gone` lets it through
 abbrev pub hoarder : WrongCard
-hoarder = leaving (λ card loan seen left. if eqb seen.number 3 then collecting card.collector left else left)
+hoarder = leaving (λ card loan seen left. when eqb seen.number 3 then collecting card.collector left else left)
 
 -- what ours answers, but for a part of it
 abbrev pub but_says : (Loan → Seen → Seen) → WrongCard
@@ -146,7 +146,7 @@ setter =
     record {
       number = seen.number;
       count = seen.count;
-      order = if eqb seen.number 0 then SetClock else NoOrder;
+      order = when eqb seen.number 0 then SetClock else NoOrder;
       time = seen.time;
       buffer = seen.buffer;
     })
@@ -174,25 +174,25 @@ marking marked c = record { octets = c.octets; length = c.length; marked = marke
 
 -- the mark stays behind when its run is gone. A condition 1 that asks only for a run of no octets lets it through
 abbrev pub staining : WrongCard
-staining = leaving (λ card loan seen left. if eqb seen.number 10 then collecting (marking true left.collector) left else left)
+staining = leaving (λ card loan seen left. when eqb seen.number 10 then collecting (marking true left.collector) left else left)
 
 -- 10 is not counted
 abbrev pub forgiver : WrongCard
-forgiver = leaving (λ card loan seen left. if eqb seen.number 10 then record { collector = left.collector; link = left.link; damaged = card.damaged } else left)
+forgiver = leaving (λ card loan seen left. when eqb seen.number 10 then record { collector = left.collector; link = left.link; damaged = card.damaged } else left)
 
 -- the form is looked at before the mark: 3 where 10 is due
 abbrev pub hasty : WrongCard
 hasty =
     with_gap (λ card loan.
     let unmarked = our_gap (collecting (marking false card.collector) card) loan in
-    if eqb unmarked.answer.number 3 then unmarked else our_gap card loan)
+    when eqb unmarked.answer.number 3 then unmarked else our_gap card loan)
 
 -- a damaged run is always a matter of parity: 10 for 3 and 4, also with ten bits
 abbrev pub suspicious : WrongCard
 suspicious =
     but_says (λ loan seen.
     record {
-      number = if eqb seen.number 3 || eqb seen.number 4 then 10 else seen.number;
+      number = when eqb seen.number 3 || eqb seen.number 4 then 10 else seen.number;
       count = seen.count;
       order = seen.order;
       time = seen.time;

@@ -9,7 +9,7 @@ use lib.Dec.{ltb, eqb}
 use lib.ListN.{take-append-drop, length, take, drop, get_or, length-append, length-drop, get_or-append}
 use lib.Seq.{length-take-le, get_or-take, take-append-le, drop-append-le}
 use borrow.Author.Tests.{le-ltb, ltb-false}
-use Rattle.octets.specs.Choice.{if◌then◌else◌}
+use Rattle.octets.specs.Choice.{when◌then◌else◌}
 use Rattle.octets.proofs.Choice.{either}
 use Rattle.image.specs.Image.{sound_image}
 use Rattle.input.specs.declared.Head.{Head}
@@ -36,8 +36,8 @@ size_of_one read long one =
 -- what a head of version 1 is
 abbrev of_version1 : List ℕ → Head
 of_version1 read =
-    if ltb (length read) (head_size read) then head.Cut else
-    if not (sound_image (image_in read)) then head.Image else
+    when ltb (length read) (head_size read) then head.Cut else
+    when not (sound_image (image_in read)) then head.Image else
     head.Whole
 
 -- `read` is what has been read, and `more` comes behind
@@ -77,7 +77,7 @@ module _ (read more : List ℕ) where
 
     -- of version 1 all of it has been read
     module _ (one : eqb (get_or read 0 0) 1 ≡ true) where
-      sized : head_size read ≡ (if ltb (length read) 3 then 3 else 10 + length_of2 read 1)
+      sized : head_size read ≡ (when ltb (length read) 3 then 3 else 10 + length_of2 read 1)
       unfolding head_size
       sized = rw (le-ltb (length read) 1 some, one)
 
@@ -108,7 +108,7 @@ module _ (read more : List ℕ) where
 
     -- what the head is, by its version
     head_by : (b : Bool) → eqb (get_or read 0 0) 1 ≡ b
-        → (if not b then head.Version else of_version1 (read ++ more)) ≡ (if not b then head.Version else of_version1 read)
+        → (when not b then head.Version else of_version1 (read ++ more)) ≡ (when not b then head.Version else of_version1 read)
     head_by false e = refl
     head_by true e =
         rw (head_size_read e, image_read e, le-ltb (length (read ++ more)) (head_size read) (omega (arith, longer)), le-ltb (length read) (head_size read) enough)

@@ -7,7 +7,7 @@ use mathlib.Core.Path.{◌≡◌, refl, sym, ap, ◌∙◌}
 use native.Mathlib.Omega.{arith}
 use lib.Dec.{ltb}
 use lib.ListN.{length, drop, length-drop}
-use Rattle.octets.specs.Choice.{if◌then◌else◌}
+use Rattle.octets.specs.Choice.{when◌then◌else◌}
 use Rattle.octets.proofs.Choice.{either, if_both}
 use Rattle.input.specs.Input.{head_size, image_in, clock_in, run_found, run_size}
 use Rattle.turns.specs.Printed.{Turn, head_turn, after_run, run_turn, behind_run, next_turn, turns_text, printed}
@@ -52,7 +52,7 @@ module _ (image clock : List ℕ) where
   -- so the texts are that of a turn and, where a run may follow, those from the next turn on
   pub turns_next : (t : Turn) (number : ℕ) (rest : List ℕ) (b : Bool) → t.more ≡ b
       → turns_text (length rest) image clock t number rest
-      ≡ t.text ++ (if b then turns_text (length (behind_run rest)) image clock (next t number rest) (number + 1) (behind_run rest) else [])
+      ≡ t.text ++ (when b then turns_text (length (behind_run rest)) image clock (next t number rest) (number + 1) (behind_run rest) else [])
   unfolding turns_text
   turns_next t number rest b e =
       let behind : List ℕ = turns_text (length (behind_run rest)) image clock (next t number rest) (number + 1) (behind_run rest) in
@@ -62,7 +62,7 @@ module _ (image clock : List ℕ) where
       (λ _. turns_same (length rest) (length (behind_run rest)) (next t number rest) (number + 1) (behind_run rest) (less_left rest (length rest) (omega arith))
       (omega arith))
       (λ _. refl))
-      ∙ ap (λ (m : Bool). t.text ++ (if m then behind else [])) e
+      ∙ ap (λ (m : Bool). t.text ++ (when m then behind else [])) e
 
   -- step after step
   steps_text_law : (texts : List (List ℕ)) (t : Turn) (number : ℕ) (rest : List ℕ) → Steps image clock t number rest texts

@@ -1,7 +1,7 @@
 -- What the printing program prints for a whole input: octets in, octets out, turn after turn. The head is a turn, and so is each run.
 -- Document 01, "The printing program". Assumes nothing.
 use Rattle.std.specs.Prelude.{ℕ, zero, suc, ◌+◌, Bool, true, false, List, [], ◌∷◌, ◌++◌, length, take, drop}
-use Rattle.octets.specs.Choice.{if◌then◌else◌}
+use Rattle.octets.specs.Choice.{when◌then◌else◌}
 use Rattle.card.specs.declared.Card.{Card}
 use Rattle.card.specs.State.{card_at_power_on, with_octets}
 use Rattle.card.specs.Gap.{Outcome, gapped}
@@ -76,7 +76,7 @@ next_turn image clock t number rest = run_turn t.card image clock number (first_
 unfoldable pub turns_text : ℕ → List ℕ → List ℕ → Turn → ℕ → List ℕ → List ℕ
 turns_text zero image clock t number rest = t.text
 turns_text (suc fuel) image clock t number rest =
-    t.text ++ (if t.more then turns_text fuel image clock (next_turn image clock t number rest) (number + 1) (behind_run rest) else [])
+    t.text ++ (when t.more then turns_text fuel image clock (next_turn image clock t number rest) (number + 1) (behind_run rest) else [])
 
 -- all that is printed: the texts from the head on, and the first run has number 1
 unfoldable pub printed : List ℕ → List ℕ

@@ -1,7 +1,7 @@
 -- What a turn returns that writes its text into a lent buffer, also where the buffer is short.
 -- Assumes nothing.
 use Rattle.std.specs.Prelude.{ℕ, ◌≤◌, List, [], ltb, length}
-use Rattle.octets.specs.Choice.{if◌then◌else◌}
+use Rattle.octets.specs.Choice.{when◌then◌else◌}
 use Rattle.octets.specs.Over.{laid_in, Does}
 use Rattle.card.specs.declared.Card.{Card}
 use Rattle.turns.specs.declared.Left.{Left}
@@ -9,7 +9,7 @@ use Rattle.turns.specs.Printed.{Turn, last_turn}
 
 -- a buffer under 1,024 octets is refused: no text, the card as it was before the turn, and no run may follow
 unfoldable pub fitting_turn : List ℕ → Card → Turn → Turn
-fitting_turn under before t = if ltb (length under) 1024 then last_turn [] before else t
+fitting_turn under before t = when ltb (length under) 1024 then last_turn [] before else t
 
 -- the result that says so
 unfoldable pub left_by : Turn → Left

@@ -11,7 +11,7 @@ use deeds::Order;
 use input::{Head, Run};
 
 // What a turn leaves: how many octets its text has, the card after it, whether a run may follow.
-#[derive(Drop)]
+#[derive(Clone, Copy)]
 pub struct Left {
     pub count: usize,
     pub card: Card,

@@ -1,7 +1,7 @@
 -- What the centre collects, message after message, when every gap is lent the same image; and records in groups.
 -- Assumes nothing.
 use Rattle.std.specs.Prelude.{ℕ, zero, suc, List, [], ◌∷◌, length, take, drop}
-use Rattle.octets.specs.Choice.{if◌then◌else◌}
+use Rattle.octets.specs.Choice.{when◌then◌else◌}
 use Rattle.choice.specs.declared.Span.{Span}
 use Rattle.octets.specs.declared.Kept.{Kept}
 use Rattle.octets.specs.Keeping.{kept_of}
@@ -15,7 +15,7 @@ unfoldable pub messages_collected : ℕ → Pending → List ℕ → List Kept
 messages_collected zero pending image = []
 messages_collected (suc turns) pending image =
     let next = next_of pending image in
-    if next.found then next.message ∷ messages_collected turns next.pending image else []
+    when next.found then next.message ∷ messages_collected turns next.pending image else []
 
 -- so many groups at most: the first `size` records, then the next, until none is left
 unfoldable pub groups_of : ℕ → ℕ → List (List ℕ) → List (List (List ℕ))

@@ -1,7 +1,7 @@
 -- The next waiting reply, worked out from the image lent with its own gap. Document 01, "Each waiting reply ..".
 -- Assumes nothing.
 use Rattle.std.specs.Prelude.{ℕ, ◌+◌, ◌%◌, Bool, true, false, List, [], eqb}
-use Rattle.octets.specs.Choice.{if◌then◌else◌}
+use Rattle.octets.specs.Choice.{when◌then◌else◌}
 use Rattle.fields.specs.declared.IdentityFound.{IdentityFound}
 use Rattle.fields.specs.declared.IdentityFound.TheVariants as head
 use Rattle.fields.specs.declared.DatesFound.{DatesFound}
@@ -34,7 +34,7 @@ nothing_found = record { found = false; message = kept_of []; pending = nothing_
 
 -- 122 asks for type 8, 123 for type 11
 unfoldable pub reading_type : ℕ → ℕ
-reading_type type = if eqb type 122 then 8 else 11
+reading_type type = when eqb type 122 then 8 else 11
 
 -- the request that is kept, and what it asks
 module _ (request : Kept) where
@@ -64,13 +64,13 @@ module _ (request : Kept) where
   -- 102 asks for type 1: the next of the chosen, when so many are given already; of a reading the objects that are asked for
   unfoldable pub data_from : List ℕ → ℕ → Portion
   data_from image before =
-      if eqb asked.header.type_id 102 then next_events (span_of asked) image before else
+      when eqb asked.header.type_id 102 then next_events (span_of asked) image before else
       next_reading (reading_type asked.header.type_id) (span_of asked) asked.objects image before
 
   -- when that image has no more chosen, mirror 10 follows
   unfoldable pub after_data : List ℕ → ℕ → Portion → Next
   after_data clock before some =
-      if eqb some.many 0 then mirror_with false 10 else
+      when eqb some.many 0 then mirror_with false 10 else
       firstly some.message (data_pending clock (before + some.many))
 
   -- mirror 7, then data

@@ -12,7 +12,7 @@ use message::Request;
 use octets::Kept;
 
 // Whether a reply waits; it, or no octets; and what waits behind it.
-#[derive(Drop)]
+#[derive(Clone, Copy)]
 pub struct Next {
     pub found: bool,
     pub message: Kept,

@@ -9,7 +9,7 @@ use lib.Dec.{ltb, eqb}
 use lib.ListN.{length, get_or}
 use borrow.Author.Tests.{lt-ltb, le-ltb, ltb-false}
 use Rattle.octets.specs.Answer.{Answer}
-use Rattle.octets.specs.Choice.{if◌then◌else◌}
+use Rattle.octets.specs.Choice.{when◌then◌else◌}
 use Rattle.octets.proofs.Outcome.{determined}
 use Rattle.message.specs.Requests.{request_of}
 use Rattle.image.specs.Image.{sound_image}
@@ -55,7 +55,7 @@ module _ (session : Session) (image clock m : List ℕ) where
       rule_in (Named found) = found
 
       by_tests : (s l k : Bool) → sound_image image ≡ s → ltb (length m) 6 ≡ l → ltb 252 (length m) ≡ k
-          → (if not s then ImageUnsound else if l || k then MessageLength else Named (decide session image clock (request_of m))) ≡ Named rule → NamedBy rule
+          → (when not s then ImageUnsound else when l || k then MessageLength else Named (decide session image clock (request_of m))) ≡ Named rule → NamedBy rule
       by_tests false l k e f g named = absurd (omega (arith, ap (λ w. (why_says w).number) named))
       by_tests true true k e f g named = absurd (omega (arith, ap (λ w. (why_says w).number) named))
       by_tests true false true e f g named = absurd (omega (arith, ap (λ w. (why_says w).number) named))
@@ -64,7 +64,7 @@ module _ (session : Session) (image clock m : List ℕ) where
 
 -- the answer of a number and values
 abbrev why_back : Answer → Why
-why_back a = if eqb a.number 1 then ImageUnsound else if eqb a.number 2 then MessageLength else Named (rule_at (get_or a.values 0 0))
+why_back a = when eqb a.number 1 then ImageUnsound else when eqb a.number 2 then MessageLength else Named (rule_at (get_or a.values 0 0))
 
 -- number and values determine it
 pub answers_differ : {a b : Why} → why_says a ≡ why_says b → a ≡ b

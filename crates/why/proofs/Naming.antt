@@ -7,7 +7,7 @@ use mathlib.Core.Path.{◌≡◌, refl, sym, ap, ◌∙◌}
 use lib.Dec.{eqb, leb}
 use lib.ListN.{length, get_or, take, drop, replicate}
 use borrow.Author.Tests.{leb-true}
-use Rattle.octets.specs.Choice.{if◌then◌else◌}
+use Rattle.octets.specs.Choice.{when◌then◌else◌}
 use Rattle.octets.specs.Numbers.{low_first}
 use Rattle.octets.proofs.Conditions.{and_left, and_right}
 use Rattle.octets.proofs.Outcome.{determined}
@@ -72,7 +72,7 @@ places_differ = determined place_of rule_at stands
 module _ (text : Rule → List ℕ) where
   abbrev rule_with : ℕ → List Rule → Rule
   rule_with code [] = Accepted
-  rule_with code (r ∷ rs) = if eqb (low_first (text r)) code then r else rule_with code rs
+  rule_with code (r ∷ rs) = when eqb (low_first (text r)) code then r else rule_with code rs
 
   abbrev itself : Rule → Rule
   itself rule = rule_with (low_first (text rule)) every_rule

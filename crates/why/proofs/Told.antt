@@ -8,7 +8,7 @@ use native.Mathlib.Omega.{arith}
 use lib.Dec.{eqb, leb}
 use lib.ListN.{length}
 use borrow.Author.Tests.{leb-true}
-use Rattle.octets.specs.Choice.{if◌then◌else◌}
+use Rattle.octets.specs.Choice.{when◌then◌else◌}
 use Rattle.octets.specs.declared.Kept.{Kept}
 use Rattle.octets.specs.Calls.{added}
 use Rattle.octets.specs.Keeping.{kept_of}
@@ -31,7 +31,7 @@ worded rule = added (added (kept_of []) (119 ∷ 104 ∷ 121 ∷ 32 ∷ 48 ∷ 3
 
 abbrev put : Rule → Kept
 put rule =
-    if eqb (place_of rule) 19 then added (worded rule) (32 ∷ 45 ∷ 32 ∷ 45 ∷ 10 ∷ []) else
+    when eqb (place_of rule) 19 then added (worded rule) (32 ∷ 45 ∷ 32 ∷ 45 ∷ 10 ∷ []) else
     added (added (added (worded rule) (32 ∷ [])) (decimal (cause_by rule))) (space ++ decimal (pn_bit (pn_by rule)) ++ newline)
 
 pub named_line : (rule : Rule) → put rule ≡ kept_of (why_line (Named rule))

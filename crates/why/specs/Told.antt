@@ -1,7 +1,7 @@
 -- The line that tells an answer: why, its number, the rule's word, cause and P/N, a space apart.
 -- Assumes nothing.
 use Rattle.std.specs.Prelude.{List, [], ◌∷◌, ◌++◌, ℕ, eqb}
-use Rattle.octets.specs.Choice.{if◌then◌else◌}
+use Rattle.octets.specs.Choice.{when◌then◌else◌}
 use Rattle.message.specs.Mirror.{pn_bit}
 use Rattle.printing.specs.Text.{decimal}
 use Rattle.printing.specs.Line.{space, dash, newline}
@@ -20,7 +20,7 @@ why_text = 119 ∷ 104 ∷ 121 ∷ []
 -- cause and P/N, which an accepted message has not
 unfoldable pub ruled_text : Rule → List ℕ
 ruled_text rule =
-    if eqb (place_of rule) (place_of Accepted) then space ++ dash ++ space ++ dash else
+    when eqb (place_of rule) (place_of Accepted) then space ++ dash ++ space ++ dash else
     space ++ decimal (cause_by rule) ++ space ++ decimal (pn_bit (pn_by rule))
 
 -- word, cause and P/N, each behind a space, and - for what there is not

@@ -2,7 +2,7 @@
 -- proved. Assumes nothing.
 use Rattle.std.specs.Prelude.{ℕ, ◌+◌, ◌≤◌, ◌<◌, Bool, true, false, not, ◌&&◌, ◌≡◌, leb, eqb, length, drop}
 use mathlib.Core.List.{List, [], ◌∷◌, ◌++◌, flatten}
-use Rattle.octets.specs.Choice.{if◌then◌else◌}
+use Rattle.octets.specs.Choice.{when◌then◌else◌}
 use Rattle.octets.specs.First.{When, ◌⇒◌▸◌, first_of◌else◌}
 use Rattle.label.specs.Label.{valid_a}
 use Rattle.records.specs.Records.{whole_at, record_at, records_from, kind_at, place_after}
@@ -79,7 +79,7 @@ unfoldable pub further : List ℕ → Walk → Walk
 further image walk =
     record {
       passed = walk.passed + 1;
-      points = if eqb (kind_at image walk.at) 2 then walk.points + 1 else walk.points;
+      points = when eqb (kind_at image walk.at) 2 then walk.points + 1 else walk.points;
       last = walk.at;
       at = place_after image walk.at;
     }

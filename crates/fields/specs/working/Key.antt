@@ -1,7 +1,7 @@
 -- What the code orders and chooses a record by: kind, point, record address and label, as far as records of its kind have them. Nothing here
 -- has to be believed: that it comes to what `image` and `choice` say of the record itself is proved. Assumes nothing.
 use Rattle.std.specs.Prelude.{ℕ, List, eqb}
-use Rattle.octets.specs.Choice.{if◌then◌else◌}
+use Rattle.octets.specs.Choice.{when◌then◌else◌}
 use Rattle.label.specs.declared.LabelA.{LabelA}
 use Rattle.label.specs.declared.LabelB.{LabelB}
 use Rattle.records.specs.Records.{kind_of, whole_at, record_at, kind_at}
@@ -20,15 +20,15 @@ key kind point address label = record { kind = kind; point = record { 0 = point 
 
 unfoldable pub key_of : List ℕ → Key
 key_of r =
-    if eqb (kind_of r) 2 then key 2 (point_of r) 0 no_label else
-    if eqb (kind_of r) 4 then key 4 (point_of r) (record_address r) (at_minute (reading_label r)) else
-    if eqb (kind_of r) 5 then key 5 (point_of r) (record_address r) (event_label r) else
+    when eqb (kind_of r) 2 then key 2 (point_of r) 0 no_label else
+    when eqb (kind_of r) 4 then key 4 (point_of r) (record_address r) (at_minute (reading_label r)) else
+    when eqb (kind_of r) 5 then key 5 (point_of r) (record_address r) (event_label r) else
     key (kind_of r) 0 0 no_label
 
 -- of the whole record at a place; kind 0 where none stands
 unfoldable pub key_at : List ℕ → ℕ → Key
-key_at s at = if whole_at s at then key_of (record_at s at) else key 0 0 0 no_label
+key_at s at = when whole_at s at then key_of (record_at s at) else key 0 0 0 no_label
 
 -- the key of the record of one kind at a place; of kind 0 where none stands
 unfoldable pub key_as : ℕ → List ℕ → ℕ → Key
-key_as kind s at = if eqb (kind_at s at) kind then key_at s at else key 0 0 0 no_label
+key_as kind s at = when eqb (kind_at s at) kind then key_at s at else key 0 0 0 no_label

@@ -2,7 +2,7 @@
 -- Nothing here has to be believed: that these are the rules of `Image` is proved. Assumes nothing.
 use Rattle.std.specs.Prelude.{ℕ, ◌+◌, ◌-◌, ◌≤◌, ◌<◌, Bool, true, false, not, ◌&&◌, ◌≡◌, ltb, leb, eqb, ℤ, length}
 use mathlib.Core.List.{List, [], ◌∷◌, flatten}
-use Rattle.octets.specs.Choice.{if◌then◌else◌}
+use Rattle.octets.specs.Choice.{when◌then◌else◌}
 use Rattle.label.specs.Label.{valid_a, valid_b, instant, before_b}
 use Rattle.records.specs.Records.{kind_of, records_from}
 use Rattle.records.specs.Said.{every, linked}
@@ -24,8 +24,8 @@ valid_dates dates.Nothing = false
 -- by point and record address, and where these are the same by what the labels say
 unfoldable pub by_key : Key → Key → Bool → Bool
 by_key k l labels =
-    if not (eqb k.point.0 l.point.0) then ltb k.point.0 l.point.0 else
-    if not (eqb k.record_address l.record_address) then ltb k.record_address l.record_address else
+    when not (eqb k.point.0 l.point.0) then ltb k.point.0 l.point.0 else
+    when not (eqb k.record_address l.record_address) then ltb k.record_address l.record_address else
     labels
 
 unfoldable pub key_before : Key → Key → Bool
@@ -33,10 +33,10 @@ key_before k l = by_key k l (before_b k.label l.label)
 
 unfoldable pub keys_in_order : Key → Key → Bool
 keys_in_order k l =
-    if not (eqb k.kind l.kind) then ltb k.kind l.kind else
-    if eqb k.kind 2 then ltb k.point.0 l.point.0 else
-    if eqb k.kind 4 then key_before k l else
-    if eqb k.kind 5 then not (key_before l k) else
+    when not (eqb k.kind l.kind) then ltb k.kind l.kind else
+    when eqb k.kind 2 then ltb k.point.0 l.point.0 else
+    when eqb k.kind 4 then key_before k l else
+    when eqb k.kind 5 then not (key_before l k) else
     false
 
 -- whether the point of a reading or an event is among some points
@@ -45,7 +45,7 @@ is_found (point.Is p) = true
 is_found point.Nothing = false
 
 unfoldable pub known_in : List (List ℕ) → List ℕ → Bool
-known_in points r = if leb 4 (kind_of r) then is_found (point_in (point_of r) 1 points) else true
+known_in points r = when leb 4 (kind_of r) then is_found (point_in (point_of r) 1 points) else true
 
 -- each record right, neighbours in order, the points that are named known, and records to the exact end
 unfoldable pub orderly : List ℕ → Bool
@@ -71,11 +71,11 @@ left s at k =
 -- a reading or an event by its key: right by itself, its point known, and that it fits behind another key
 unfoldable pub key_right : Key → Bool
 key_right k =
-    if eqb k.kind 4 then reading_record k.record_address && valid_a k.label.a else
+    when eqb k.kind 4 then reading_record k.record_address && valid_a k.label.a else
     event_record k.record_address && valid_b k.label
 
 unfoldable pub key_known : List (List ℕ) → Key → Bool
-key_known points k = if leb 4 k.kind then is_found (point_in k.point.0 1 points) else true
+key_known points k = when leb 4 k.kind then is_found (point_in k.point.0 1 points) else true
 
 unfoldable pub key_fits : List (List ℕ) → Key → Key → Bool
 key_fits points k l = key_right l && (keys_in_order k l && key_known points l)
@@ -103,7 +103,7 @@ abbrev pub halted : Run → Bool → Run
 halted run fine = record { going = false; fine = fine; at = run.at; last = run.last; minute = run.minute }
 
 abbrev pub advanced : Run → Bool → ℕ → Key → ℤ → Run
-advanced run fits next k minute = if fits then record { going = true; fine = true; at = next; last = k; minute = minute } else halted run false
+advanced run fits next k minute = when fits then record { going = true; fine = true; at = next; last = k; minute = minute } else halted run false
 
 -- a walk over a run of one kind that goes on
 pub record Going (kind : ℕ) (s : List ℕ) (run : Run) : Type 0 where

@@ -1,7 +1,7 @@
 -- The one pass over a book as it is worked out: it checks the entries and keeps where the code's name lies. That this is the check of `Book` and the place
 -- of `LookUp` is proved. Assumes nothing.
 use Rattle.std.specs.Prelude.{ℕ, List, ltb, take, drop}
-use Rattle.octets.specs.Choice.{if◌then◌else◌}
+use Rattle.octets.specs.Choice.{when◌then◌else◌}
 use Rattle.names.specs.declared.Code.{Code}
 use Rattle.names.specs.declared.Checked.{Checked}
 use Rattle.names.specs.declared.Checked.TheVariants as checks
@@ -20,7 +20,7 @@ entries_from s at = entries (drop at s)
 
 -- what was found before stays
 unfoldable pub kept : Place → Place → Place
-kept found later = if ltb 0 found.number then found else later
+kept found later = when ltb 0 found.number then found else later
 
 unfoldable pub read : Checked → Place → Passed
 read checks.Sound found = Read found
