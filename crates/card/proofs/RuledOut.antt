@@ -6,13 +6,13 @@ use mathlib.Core.List.{List, []}
 use mathlib.Core.Path.{◌≡◌, refl, sym, ap, ◌∙◌}
 use native.Mathlib.Omega.{arith}
 use contract.Lifetimes.{Lfts}
-use denote.Ref.{Bor}
+use Rattle.std.proofs.Common.{Bor, MutBor}
 use borrow.Author.Tests.{lt-ltb}
 use lib.ListN.{length, get_or, take, drop}
 use lib.Seq.{take-append_seam, get_or-append-add, get_or-drop, get_or-set_same}
 use Rattle.octets.specs.Over.{laid_in}
 use Rattle.octets.proofs.Choice.{not_both}
-use Rattle.octets.proofs.Outcome.{RuledOut, RuledOutWith, Place, lent}
+use Rattle.octets.proofs.Outcome.{RuledOut, RuledOutWith, Place, lent, lent_mut}
 use Rattle.image.specs.Image.{sound_image}
 use Rattle.frame.specs.declared.Fault.{Fault}
 use Rattle.frame.specs.declared.Fault.TheVariants.{Empty, Long, Parity, Malformed, Spoiled}
@@ -171,8 +171,8 @@ module _ (card : Card) (image clock : List ℕ) (room : ℕ) where
 
 module _ (κs : Lfts 2) (x y : Place) (card : Card) (image clock buffer : List ℕ) (wrong : Gone) where
   -- what the call is given
-  abbrev given : Card × (Bor (List ℕ) × (List ℕ × (Bor (List ℕ) × Unit {0})))
-  given = (card, (lent x image, (clock, (lent y buffer, tt))))
+  abbrev given : Card × (Bor (List ℕ) × (List ℕ × (MutBor (List ℕ) × Unit {0})))
+  given = (card, (lent x image, (clock, (lent_mut y buffer, tt))))
 
   -- the outcome that the contract says
   abbrev said : Outcome

@@ -1,3 +1,4 @@
+#![tactic(auto)]
 // The card: its state, a character, a run examined, a gap.
 ghost use Rattle.std.specs.Prelude.{◌≤◌, ◌≡◌, ltb, length};
 ghost use Rattle.octets.specs.Over.{laid_in, Does};

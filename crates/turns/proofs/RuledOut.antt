@@ -10,7 +10,7 @@ use contract.Lifetimes.{Lfts}
 use lib.Dec.{ltb}
 use lib.ListN.{length, get_or, take, drop}
 use Rattle.octets.proofs.Choice.{either}
-use Rattle.octets.proofs.Outcome.{RuledOut, RuledOutWith, Place, lent}
+use Rattle.octets.proofs.Outcome.{RuledOut, RuledOutWith, Place, lent, lent_mut}
 use Rattle.card.specs.declared.Card.{Card}
 use Rattle.card.specs.State.{card_at_power_on, with_octets}
 use Rattle.card.specs.Gap.{Outcome, gapped}
@@ -59,19 +59,19 @@ module _ (under : List ℕ) (before : Card) (t : Turn) where
 
 module _ (κs : Lfts 2) (x y : Place) (out read : List ℕ) (wrong : Left) where
   -- another card than that at power-on, whatever the head
-  start_card : (wrong.card ≡ card_at_power_on → ⊥) → RuledOut (start.Post κs) (lent x out, (lent y read, tt)) wrong
+  start_card : (wrong.card ≡ card_at_power_on → ⊥) → RuledOut (start.Post κs) (lent_mut x out, (lent y read, tt)) wrong
   unfolding left_by head_turn
   start_card other s p =
       other (ap (λ (l : Left). l.card) p.0.answers ∙ fitting_card out card_at_power_on (head_turn read) (head_card (head_found read)))
 
   -- runs after another version, an unsound image or a head that is cut
-  start_runs : (head_found read ≡ head.Whole → ⊥) → wrong.more ≡ true → RuledOut (start.Post κs) (lent x out, (lent y read, tt)) wrong
+  start_runs : (head_found read ≡ head.Whole → ⊥) → wrong.more ≡ true → RuledOut (start.Post κs) (lent_mut x out, (lent y read, tt)) wrong
   unfolding left_by head_turn
   start_runs other more s p =
       false≢true (sym (fitting_last out card_at_power_on (head_turn read) (head_last (head_found read) other)) ∙ sym (ap (λ (l : Left). l.more) p.0.answers) ∙ more)
 
   -- no run after a whole head
-  start_none : head_found read ≡ head.Whole → 1024 ≤ length out → wrong.more ≡ false → RuledOut (start.Post κs) (lent x out, (lent y read, tt)) wrong
+  start_none : head_found read ≡ head.Whole → 1024 ≤ length out → wrong.more ≡ false → RuledOut (start.Post κs) (lent_mut x out, (lent y read, tt)) wrong
   unfolding left_by head_turn after_head
   start_none found room none s p =
       let said : Turned out card_at_power_on (after_head head.Whole) wrong s.0.now = rw found at p in
@@ -79,21 +79,21 @@ module _ (κs : Lfts 2) (x y : Place) (out read : List ℕ) (wrong : Left) where
 
   -- CUT for cut, whatever is answered
   start_case : head_found read ≡ head.Cut → 1024 ≤ length out
-      → RuledOutWith (λ s. take 4 s.0.now) (start.Post κs) (lent x out, (lent y read, tt)) wrong (67 ∷ 85 ∷ 84 ∷ 10 ∷ [])
+      → RuledOutWith (λ s. take 4 s.0.now) (start.Post κs) (lent_mut x out, (lent y read, tt)) wrong (67 ∷ 85 ∷ 84 ∷ 10 ∷ [])
   unfolding head_turn after_head
   start_case found room s e p =
       let said : Turned out card_at_power_on (after_head head.Cut) wrong s.0.now = rw found at p in
       omega (arith, ap (λ (l : List ℕ). get_or l 0 0) (sym e ∙ stands _ _ _ said room))
 
   -- nothing said of another version
-  start_version : head_found read ≡ head.Version → 1024 ≤ length out → (wrong.count ≡ 8 → ⊥) → RuledOut (start.Post κs) (lent x out, (lent y read, tt)) wrong
+  start_version : head_found read ≡ head.Version → 1024 ≤ length out → (wrong.count ≡ 8 → ⊥) → RuledOut (start.Post κs) (lent_mut x out, (lent y read, tt)) wrong
   unfolding left_by head_turn after_head
   start_version found room other s p =
       let said : Turned out card_at_power_on (after_head head.Version) wrong s.0.now = rw found at p in
       other (ap (λ (l : Left). l.count) (whole _ _ _ said room))
 
   -- a short buffer, and a text yet counted
-  start_short : length out < 1024 → (wrong.count ≡ 0 → ⊥) → RuledOut (start.Post κs) (lent x out, (lent y read, tt)) wrong
+  start_short : length out < 1024 → (wrong.count ≡ 0 → ⊥) → RuledOut (start.Post κs) (lent_mut x out, (lent y read, tt)) wrong
   unfolding left_by
   start_short short other s p = other (ap (λ (l : Left). l.count) (refused _ _ _ p short))
 
@@ -106,47 +106,47 @@ module _ (κs : Lfts 3) (x y z : Place) (out : List ℕ) (card : Card) (image cl
 
   -- a cut run given to the card, or the card changed by one in any other way
   turn_cut_card : run_found octets ≡ run.Cut → (wrong.card ≡ card → ⊥)
-      → RuledOut (turn.Post κs) (lent x out, (card, (lent y image, (clock, (number, (lent z octets, tt)))))) wrong
+      → RuledOut (turn.Post κs) (lent_mut x out, (card, (lent y image, (clock, (number, (lent z octets, tt)))))) wrong
   unfolding left_by after_run
   turn_cut_card found other s p =
       other (ap (λ (l : Left). l.card) (said_of run.Cut found p).0.answers ∙ fitting_card out card (last_turn cut_line card) refl)
 
   -- another run after a cut one
   turn_cut_more : run_found octets ≡ run.Cut → wrong.more ≡ true
-      → RuledOut (turn.Post κs) (lent x out, (card, (lent y image, (clock, (number, (lent z octets, tt)))))) wrong
+      → RuledOut (turn.Post κs) (lent_mut x out, (card, (lent y image, (clock, (number, (lent z octets, tt)))))) wrong
   unfolding left_by after_run
   turn_cut_more found more s p =
       false≢true (sym (fitting_last out card (last_turn cut_line card) refl) ∙ sym (ap (λ (l : Left). l.more) (said_of run.Cut found p).0.answers) ∙ more)
 
   -- CUT for cut, whatever is answered
   turn_cut_case : run_found octets ≡ run.Cut → 1024 ≤ length out
-      → RuledOutWith (λ s. take 4 s.0.now) (turn.Post κs) (lent x out, (card, (lent y image, (clock, (number, (lent z octets, tt)))))) wrong
+      → RuledOutWith (λ s. take 4 s.0.now) (turn.Post κs) (lent_mut x out, (card, (lent y image, (clock, (number, (lent z octets, tt)))))) wrong
       (67 ∷ 85 ∷ 84 ∷ 10 ∷ [])
   unfolding after_run
   turn_cut_case found room s e p = omega (arith, ap (λ (l : List ℕ). get_or l 0 0) (sym e ∙ stands _ _ _ (said_of run.Cut found p) room))
 
   -- a text where the input ends
   turn_end_text : run_found octets ≡ run.End → (wrong.count ≡ 0 → ⊥)
-      → RuledOut (turn.Post κs) (lent x out, (card, (lent y image, (clock, (number, (lent z octets, tt)))))) wrong
+      → RuledOut (turn.Post κs) (lent_mut x out, (card, (lent y image, (clock, (number, (lent z octets, tt)))))) wrong
   unfolding left_by after_run
   turn_end_text found other s p =
       other (ap (λ (l : Left). l.count) (said_of run.End found p).0.answers ∙ ap length (fitting_none out card (last_turn [] card) refl))
 
   -- a short buffer, and the run yet carried out
   turn_short_card : length out < 1024 → (wrong.card ≡ card → ⊥)
-      → RuledOut (turn.Post κs) (lent x out, (card, (lent y image, (clock, (number, (lent z octets, tt)))))) wrong
+      → RuledOut (turn.Post κs) (lent_mut x out, (card, (lent y image, (clock, (number, (lent z octets, tt)))))) wrong
   unfolding left_by
   turn_short_card short other s p = other (ap (λ (l : Left). l.card) (refused _ _ _ p short))
 
   -- a short buffer, and another run yet let follow
   turn_short_more : length out < 1024 → wrong.more ≡ true
-      → RuledOut (turn.Post κs) (lent x out, (card, (lent y image, (clock, (number, (lent z octets, tt)))))) wrong
+      → RuledOut (turn.Post κs) (lent_mut x out, (card, (lent y image, (clock, (number, (lent z octets, tt)))))) wrong
   unfolding left_by
   turn_short_more short more s p = false≢true (sym (ap (λ (l : Left). l.more) (refused _ _ _ p short)) ∙ more)
 
   -- a short buffer, and the buffer yet changed
   turn_short_buffer : (other : List ℕ) → length out < 1024 → (other ≡ out → ⊥)
-      → RuledOutWith (λ s. s.0.now) (turn.Post κs) (lent x out, (card, (lent y image, (clock, (number, (lent z octets, tt)))))) wrong other
+      → RuledOutWith (λ s. s.0.now) (turn.Post κs) (lent_mut x out, (card, (lent y image, (clock, (number, (lent z octets, tt)))))) wrong other
   turn_short_buffer other short differ s e p = differ (sym e ∙ kept _ _ _ p short)
 
   -- a whole run
@@ -166,19 +166,19 @@ module _ (κs : Lfts 3) (x y z : Place) (out : List ℕ) (card : Card) (image cl
 
     -- the card thrown away after a run, or any other card than the one that the gap left
     turn_card : 1024 ≤ length out → (wrong.card ≡ outcome.card → ⊥)
-        → RuledOut (turn.Post κs) (lent x out, (card, (lent y image, (clock, (number, (lent z octets, tt)))))) wrong
+        → RuledOut (turn.Post κs) (lent_mut x out, (card, (lent y image, (clock, (number, (lent z octets, tt)))))) wrong
     unfolding left_by line_turn
     turn_card room other s p = other (ap (λ (l : Left). l.card) (whole _ _ _ (said_whole p) room))
 
     -- no run after a whole one
     turn_none : 1024 ≤ length out → wrong.more ≡ false
-        → RuledOut (turn.Post κs) (lent x out, (card, (lent y image, (clock, (number, (lent z octets, tt)))))) wrong
+        → RuledOut (turn.Post κs) (lent_mut x out, (card, (lent y image, (clock, (number, (lent z octets, tt)))))) wrong
     unfolding left_by line_turn
     turn_none room none s p = false≢true (sym none ∙ ap (λ (l : Left). l.more) (whole _ _ _ (said_whole p) room))
 
     -- another text than the run's line, with another number too
     turn_line : (other : List ℕ) → 1024 ≤ length out → (other ≡ text → ⊥)
-        → RuledOutWith (λ s. take (length text) s.0.now) (turn.Post κs) (lent x out, (card, (lent y image, (clock, (number, (lent z octets, tt)))))) wrong
+        → RuledOutWith (λ s. take (length text) s.0.now) (turn.Post κs) (lent_mut x out, (card, (lent y image, (clock, (number, (lent z octets, tt)))))) wrong
         other
     unfolding line_turn
     turn_line other room differ s e p = differ (sym e ∙ stands _ _ _ (said_whole p) room)
