@@ -2,6 +2,7 @@
 use crate::entries::{Entry, Line};
 use crate::{entries, lines, words};
 use names::Checked;
+use std::io::{Stderr, Stdout};
 use std::num::wrapping_add_usize;
 
 // ---- where the names lie ----
@@ -21,10 +22,17 @@ fn set_place(places: &mut [usize], code: usize, place: usize) {
 }
 
 // The entry of the line that begins at a place is kept, unless an earlier line has its code.
-fn keep(text: &[u8], from: usize, number: usize, entry: Entry, places: &mut [usize]) -> bool {
+fn keep(
+    error: Stderr,
+    text: &[u8],
+    from: usize,
+    number: usize,
+    entry: Entry,
+    places: &mut [usize],
+) -> bool {
     let before = place_of(places, entry.code);
     if 0 < before {
-        words::again(number, entry.code, lines::number_at(text, before));
+        words::again(error, number, entry.code, lines::number_at(text, before));
         return false;
     }
     set_place(places, entry.code, wrapping_add_usize(from, entry.at));
@@ -32,12 +40,12 @@ fn keep(text: &[u8], from: usize, number: usize, entry: Entry, places: &mut [usi
 }
 
 // Answers whether the line that begins at a place is accepted. What is wrong with it is said at once: no line behind it is looked at.
-fn keep_line(text: &[u8], from: usize, number: usize, places: &mut [usize]) -> bool {
+fn keep_line(error: Stderr, text: &[u8], from: usize, number: usize, places: &mut [usize]) -> bool {
     match entries::judge(lines::line_at(text, from)) {
         Line::PassedOver => true,
-        Line::Entry(entry) => keep(text, from, number, entry, places),
+        Line::Entry(entry) => keep(error, text, from, number, entry, places),
         Line::Faulty(fault) => {
-            words::line_fault(number, fault);
+            words::line_fault(error, number, fault);
             false
         }
     }
@@ -58,7 +66,7 @@ fn start(text: &[u8]) -> usize {
 }
 
 // Answers whether every line is accepted. A loop must end, so its budget is the line's number: a text has no more lines than octets.
-fn keep_lines(text: &[u8], places: &mut [usize]) -> bool {
+fn keep_lines(error: Stderr, text: &[u8], places: &mut [usize]) -> bool {
     let mut from = start(text);
     let mut number = 0;
     while number < text.len() {
@@ -66,7 +74,7 @@ fn keep_lines(text: &[u8], places: &mut [usize]) -> bool {
             return true;
         }
         number += 1;
-        if !keep_line(text, from, number, places) {
+        if !keep_line(error, text, from, number, places) {
             return false;
         }
         from = lines::next_line(text, from);
@@ -107,25 +115,31 @@ fn make(text: &[u8], places: &[usize], book: &mut [u8]) -> usize {
 }
 
 // Nothing is written that has not passed the check.
-fn write_sound(book: &[u8]) {
+fn write_sound(output: Stdout, error: Stderr, book: &[u8]) {
     match names::check(book) {
         Checked::Sound => {
-            io::write_all(1, book);
+            stream::say(output, book);
         }
-        Checked::Refused(refusal, entry) => words::entry_fault(entry, refusal),
+        Checked::Refused(refusal, entry) => words::entry_fault(error, entry, refusal),
     }
 }
 
 // The longest text.
 const MOST: usize = 4000000;
 
-pub(crate) fn book_from(text: &[u8], places: &mut [usize], book: &mut [u8]) {
+pub(crate) fn book_from(
+    output: Stdout,
+    error: Stderr,
+    text: &[u8],
+    places: &mut [usize],
+    book: &mut [u8],
+) {
     if MOST < text.len() {
-        words::text_too_long();
+        words::text_too_long(error);
         return;
     }
-    if keep_lines(text, places) {
+    if keep_lines(error, text, places) {
         let many = make(text, places, book);
-        write_sound(octets::part(book, 0, many));
+        write_sound(output, error, octets::part(book, 0, many));
     }
 }

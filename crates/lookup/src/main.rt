@@ -1,7 +1,10 @@
+#![tactic(auto)]
+
 // The look-up program: calls of the library of names from standard input, a line for each. second/README.md, "The look-up face". It only reads
 // (`stream`), calls (`names`) and writes (`stream`), and decides nothing.
 use names::{Checked, Code, LookedUp, Shown};
 use octets::Kept;
+use std::io::{Stdin, Stdout};
 use stream::{Texts, Window};
 
 // The most octets of a book that is taken: more than a book of every SPA with every seven-bit SPQ has.
@@ -106,19 +109,18 @@ fn call_in(read: &[u8]) -> Call {
 }
 
 // The window begins with a call. Each reading says how much more is to be read.
-fn read_call(space: &mut [u8], window: Window) -> Window {
-    let letter = stream::filled(space, window, call_size(b""));
-    let start = stream::filled(space, letter, call_size(stream::seen(space, letter)));
+fn read_call(input: Stdin, space: &mut [u8], window: Window) -> Window {
+    let letter = stream::filled(input, space, window, call_size(b""));
+    let start = stream::filled(input, space, letter, call_size(stream::seen(space, letter)));
     let size = call_size(stream::seen(space, start));
-    stream::filled(space, start, size)
+    stream::filled(input, space, start, size)
 }
 
 // ---- lines ----
 
 fn with_number(text: Kept, n: usize) -> Kept {
-    let mut figures = [0u8; 20];
-    let count = io::decimal(n as u64, &mut figures);
-    text.with(&figures[..count])
+    let mut figures = itoa::Buffer::new();
+    text.with(figures.format(n as u64).as_bytes())
 }
 
 fn figure(n: u8) -> u8 {
@@ -135,7 +137,7 @@ fn figure(n: u8) -> u8 {
 fn with_pairs(text: Kept, some: &[u8]) -> Kept {
     let mut now = text;
     if some.len() == 0 {
-        return text.with(b"-");
+        return now.with(b"-");
     }
     let mut i = 0;
     while i < some.len() {
@@ -182,11 +184,11 @@ fn looking_up<'a>(chosen: &'a [u8], italian: &'a [u8], code: Code) -> Kept {
 // ---- what is done ----
 
 // A line waits, and what waits is written where it is the last.
-fn saying(shelf: Shelf, line: Kept, more: bool, block: &mut [u8]) -> Shelf {
+fn saying(output: Stdout, shelf: Shelf, line: Kept, more: bool, block: &mut [u8]) -> Shelf {
     let octets = line.octets;
     let text = octets::part(&octets, 0, line.length as usize);
     let mut next = shelf;
-    next.texts = stream::tell(block, shelf.texts, text, more);
+    next.texts = stream::tell(output, block, shelf.texts, text, more);
     next
 }
 
@@ -197,6 +199,7 @@ fn laid(space: &mut [u8], book: &[u8]) -> usize {
 }
 
 fn asked<'a>(
+    output: Stdout,
     shelf: Shelf,
     code: Code,
     chosen: &'a [u8],
@@ -205,14 +208,15 @@ fn asked<'a>(
 ) -> Shelf {
     let first = octets::part(chosen, 0, shelf.chosen);
     let second = octets::part(italian, 0, shelf.italian);
-    saying(shelf, looking_up(first, second, code), true, block)
+    saying(output, shelf, looking_up(first, second, code), true, block)
 }
 
-fn last(shelf: Shelf, line: &[u8], block: &mut [u8]) -> Shelf {
-    saying(shelf, Kept::new().with(line), false, block)
+fn last(output: Stdout, shelf: Shelf, line: &[u8], block: &mut [u8]) -> Shelf {
+    saying(output, shelf, Kept::new().with(line), false, block)
 }
 
 fn done<'a>(
+    output: Stdout,
     shelf: Shelf,
     read: &[u8],
     chosen: &'a mut [u8],
@@ -224,32 +228,41 @@ fn done<'a>(
     let book = octets::part(read, 4, read.len());
     let mut next = shelf;
     match call_in(read) {
-        Call::End => last(shelf, b"", block),
-        Call::Cut => last(shelf, b"cut\n", block),
-        Call::Wrong => last(shelf, b"call\n", block),
+        Call::End => last(output, shelf, b"", block),
+        Call::Cut => last(output, shelf, b"cut\n", block),
+        Call::Wrong => last(output, shelf, b"call\n", block),
         Call::Chosen => {
             next.chosen = laid(chosen, book);
-            saying(next, check_line(book), true, block)
+            saying(output, next, check_line(book), true, block)
         }
         Call::Italian => {
             next.italian = laid(italian, book);
-            saying(next, check_line(book), true, block)
+            saying(output, next, check_line(book), true, block)
         }
-        Call::Pair => asked(shelf, Code { spa, spq }, chosen, italian, block),
-        Call::Event => asked(shelf, Code::of_event(spa, spq), chosen, italian, block),
+        Call::Pair => asked(output, shelf, Code { spa, spq }, chosen, italian, block),
+        Call::Event => asked(
+            output,
+            shelf,
+            Code::of_event(spa, spq),
+            chosen,
+            italian,
+            block,
+        ),
     }
 }
 
 // What waits is written where the next call is still to be read.
-fn before_reading(block: &[u8], texts: Texts, read: &[u8]) -> Texts {
+fn before_reading(output: Stdout, block: &[u8], texts: Texts, read: &[u8]) -> Texts {
     if read.len() < call_size(read) {
-        return stream::out(block, texts);
+        return stream::out(output, block, texts);
     }
     texts
 }
 
 // The next call of the input.
 fn turn(
+    input: Stdin,
+    output: Stdout,
     shelf: Shelf,
     space: &mut [u8],
     chosen: &mut [u8],
@@ -257,16 +270,30 @@ fn turn(
     block: &mut [u8],
 ) -> Shelf {
     let mut next = shelf;
-    next.texts = before_reading(block, shelf.texts, stream::seen(space, shelf.rest));
-    let window = read_call(space, shelf.rest);
+    next.texts = before_reading(output, block, shelf.texts, stream::seen(space, shelf.rest));
+    let window = read_call(input, space, shelf.rest);
     let read = stream::seen(space, window);
     let size = call_size(read);
     next.rest = stream::taken(window, size);
-    done(next, octets::part(read, 0, size), chosen, italian, block)
+    done(
+        output,
+        next,
+        octets::part(read, 0, size),
+        chosen,
+        italian,
+        block,
+    )
 }
 
 // Calls until the input ends. A loop must end, so it has a budget that no input uses up.
-fn calls(space: &mut [u8], chosen: &mut [u8], italian: &mut [u8], block: &mut [u8]) {
+fn calls(
+    input: Stdin,
+    output: Stdout,
+    space: &mut [u8],
+    chosen: &mut [u8],
+    italian: &mut [u8],
+    block: &mut [u8],
+) {
     let mut shelf = Shelf {
         chosen: 0,
         italian: 0,
@@ -279,7 +306,7 @@ fn calls(space: &mut [u8], chosen: &mut [u8], italian: &mut [u8], block: &mut [u
     let mut number = 0u64;
     while number < u64::MAX {
         number += 1;
-        let next = turn(shelf, space, chosen, italian, block);
+        let next = turn(input, output, shelf, space, chosen, italian, block);
         let texts = next.texts;
         if texts.going {
             shelf = next;
@@ -289,10 +316,17 @@ fn calls(space: &mut [u8], chosen: &mut [u8], italian: &mut [u8], block: &mut [u
     }
 }
 
-fn main() {
+fn main(rt: HostRuntime) {
     let mut space = [0u8; 1500004];
     let mut chosen = [0u8; 1500000];
     let mut italian = [0u8; 1500000];
     let mut block = [0u8; 4096];
-    calls(&mut space, &mut chosen, &mut italian, &mut block);
+    calls(
+        rt.stdin(),
+        rt.stdout(),
+        &mut space,
+        &mut chosen,
+        &mut italian,
+        &mut block,
+    );
 }
