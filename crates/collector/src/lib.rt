@@ -112,16 +112,14 @@ fn written(octets: [u8; 261], at: usize, top: &[u8]) -> [u8; 261]
 }
 
 // The same of a collector that is lent.
-#[unsafe(no_mangle)]
-pub extern "C" fn collect(collector: &mut Collector, octet: u8)
+pub fn collect(collector: &mut Collector, octet: u8)
     ensures { PutIn Ten collector.old octet collector.new }
 {
     *collector = collector.with(octet);
 }
 
 // A character put into a collector that is lent.
-#[unsafe(no_mangle)]
-pub extern "C" fn collect_character(collector: &mut Collector, octet: u8, parity: bool)
+pub fn collect_character(collector: &mut Collector, octet: u8, parity: bool)
     ensures { PutIn Eleven collector.old (record { octet = octet; parity = parity }) collector.new }
 {
     *collector = collector.with_parity(octet, parity);

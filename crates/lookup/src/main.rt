@@ -137,7 +137,7 @@ fn figure(n: u8) -> u8 {
 fn with_pairs(text: Kept, some: &[u8]) -> Kept {
     let mut now = text;
     if some.len() == 0 {
-        return now.with(b"-");
+        return text.with(b"-");
     }
     let mut i = 0;
     while i < some.len() {
