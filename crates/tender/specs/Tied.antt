@@ -2,7 +2,7 @@
 -- a relation of lifetimes, arguments, the result and what is left at exit. Definitions cannot name it, so each statement here is over any
 -- contract with such arguments and such a result; `proofs/Tied` says it of the five public ones. Assumes nothing.
 use Rattle.std.specs.Prelude.{ℕ, List, ◌≡◌}
-use Rattle.std.specs.Borrow.{Bor}
+use Rattle.std.specs.Borrow.{Bor, MutBor}
 use Rattle.history.specs.History.{Stepped, fed}
 use Rattle.profile.specs.declared.Profile.{Profile}
 use Rattle.profile.specs.declared.Profile.TheVariants.{Ten}
@@ -34,9 +34,9 @@ module _ {ℓ γ} {K : Type ℓ} {S : K → Type γ} where
       (κs : K) (card : Card) (octets : Bor (List ℕ)) (r : Card) (s : S κs) → Post κs (card, (octets, tt)) r s → r ≡ fed (ours Ten) card octets.now
 
   -- `left` reads off the buffer at exit
-  abbrev pub GapTied : ((κs : K) → S κs → List ℕ) → ((κs : K) → Card × (Bor (List ℕ) × (List ℕ × (Bor (List ℕ) × Unit {0}))) → Gone → S κs → Type 0)
+  abbrev pub GapTied : ((κs : K) → S κs → List ℕ) → ((κs : K) → Card × (Bor (List ℕ) × (List ℕ × (MutBor (List ℕ) × Unit {0}))) → Gone → S κs → Type 0)
       → Type (ℓ ⊔ γ)
   GapTied left Post =
-      (κs : K) (card : Card) (image : Bor (List ℕ)) (clock : List ℕ) (buffer : Bor (List ℕ)) (gone : Gone) (s : S κs)
+      (κs : K) (card : Card) (image : Bor (List ℕ)) (clock : List ℕ) (buffer : MutBor (List ℕ)) (gone : Gone) (s : S κs)
       → Post κs (card, (image, (clock, (buffer, tt)))) gone s
       → outcome_by gone (left κs s) ≡ our_gap card (record { image = image.now; clock = clock; buffer = buffer.now })

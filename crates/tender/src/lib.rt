@@ -1,1 +1,2 @@
+#![tactic(auto)]
 // The buyer's conditions as theorems: no code.
