@@ -1,3 +1,4 @@
+#![tactic(auto)]
 // Why the meter says no: the first rule in document 01's order that applies to a message, by its own name.
 ghost use Rattle.std.specs.Prelude.{◌++◌, ◌≡◌};
 ghost use Rattle.octets.specs.Calls.{added};
