@@ -1,3 +1,4 @@
+#![tactic(auto)]
 // The calls of the driving program: what each does to the bench, so that the program only reads, steps and writes.
 ghost use Rattle.std.specs.Prelude.{true, false, [], ◌≡◌, length, take};
 ghost use Rattle.octets.specs.Keeping.{octets_of};

@@ -11,6 +11,7 @@ use link::Link;
 use message::Request as Asked;
 use profile::{Character, Profile};
 use rules::Session;
+use std::io::Stdout;
 
 // What is lent to the card with every gap: how many octets the image has, the clock, how many octets the reply buffer has.
 #[derive(Clone, Copy)]
@@ -41,23 +42,23 @@ pub(crate) fn start() -> Bench {
 
 // ---- what is lent ----
 
-fn lend(lent: Lent, request: Request, given: &[u8], shelf: &mut [u8]) -> Lent {
+fn lend(output: Stdout, lent: Lent, request: Request, given: &[u8], shelf: &mut [u8]) -> Lent {
     let word = request.word;
     let argument = request.argument;
     match word {
-        Word::Image => lend_image(lent, given, shelf),
-        Word::Clock => lend_clock(lent, given),
-        Word::Book => lend_book(lent, 0, given, shelf),
-        Word::Italian => lend_book(lent, 1, given, shelf),
-        _ => lend_buffer(lent, argument.number),
+        Word::Image => lend_image(output, lent, given, shelf),
+        Word::Clock => lend_clock(output, lent, given),
+        Word::Book => lend_book(output, lent, 0, given, shelf),
+        Word::Italian => lend_book(output, lent, 1, given, shelf),
+        _ => lend_buffer(output, lent, argument.number),
     }
 }
 
 // The image stands at the front of the shelf.
-fn lend_image(lent: Lent, given: &[u8], shelf: &mut [u8]) -> Lent {
+fn lend_image(output: Stdout, lent: Lent, given: &[u8], shelf: &mut [u8]) -> Lent {
     let clock = lent.clock;
     octets::put(shelf, 0, given);
-    images::explain(given);
+    images::explain(output, given);
     Lent {
         image: given.len(),
         clock,
@@ -65,8 +66,8 @@ fn lend_image(lent: Lent, given: &[u8], shelf: &mut [u8]) -> Lent {
     }
 }
 
-fn lend_clock(lent: Lent, given: &[u8]) -> Lent {
-    labels::explain(given);
+fn lend_clock(output: Stdout, lent: Lent, given: &[u8]) -> Lent {
+    labels::explain(output, given);
     Lent {
         image: lent.image,
         clock: input::clock_at(given, 0),
@@ -74,9 +75,9 @@ fn lend_clock(lent: Lent, given: &[u8]) -> Lent {
     }
 }
 
-fn lend_buffer(lent: Lent, many: usize) -> Lent {
+fn lend_buffer(output: Stdout, lent: Lent, many: usize) -> Lent {
     let clock = lent.clock;
-    words::buffer(many as u64);
+    words::buffer(output, many as u64);
     Lent {
         image: lent.image,
         clock,
@@ -84,10 +85,10 @@ fn lend_buffer(lent: Lent, many: usize) -> Lent {
     }
 }
 
-fn lend_book(lent: Lent, which: u8, given: &[u8], shelf: &mut [u8]) -> Lent
+fn lend_book(output: Stdout, lent: Lent, which: u8, given: &[u8], shelf: &mut [u8]) -> Lent
     requires { which < 2 }
 {
-    books::lend(shelf, which, given);
+    books::lend(output, shelf, which, given);
     lent
 }
 
@@ -155,8 +156,8 @@ fn profile_after(profile: Profile, request: Request) -> Profile {
 
 // ---- what the card is given ----
 
-fn collecting(card: Card, given: &[u8]) -> Card {
-    words::octets_in(given.len() as u64);
+fn collecting(output: Stdout, card: Card, given: &[u8]) -> Card {
+    words::octets_in(output, given.len() as u64);
     card.octets(given)
 }
 
@@ -168,13 +169,13 @@ fn character_at(given: &[u8], at: usize) -> Character {
     }
 }
 
-fn collecting_characters(card: Card, given: &[u8]) -> Card {
+fn collecting_characters(output: Stdout, card: Card, given: &[u8]) -> Card {
     let mut now = card;
     let mut at = 0;
-    words::octets_in((given.len() / 2) as u64);
+    words::octets_in(output, (given.len() / 2) as u64);
     while at < given.len() {
         let character = character_at(given, at);
-        cards::character((at / 2 + 1) as u64, character);
+        cards::character(output, (at / 2 + 1) as u64, character);
         now = now.character(character);
         at += 2;
     }
@@ -190,20 +191,28 @@ fn gap(card: Card, lent: Lent, image: &[u8], buffer: &mut [u8]) -> Gone {
     card.gap(image, clock, buffer)
 }
 
-fn answered(gone: Gone, met: Met, buffer: &[u8], shelf: &[u8]) -> Card {
+fn answered(output: Stdout, gone: Gone, met: Met, buffer: &[u8], shelf: &[u8]) -> Card {
     let order = gone.order;
     let time = gone.time;
     let sent = octets::part(buffer, 0, gone.length as usize);
-    cards::gap(gone.number, order, time, met, sent, shelf);
+    cards::gap(output, gone.number, order, time, met, sent, shelf);
     gone.card
 }
 
 // Octets and a gap. A buffer over 261 octets serves like one that has 261.
-fn run(card: Card, lent: Lent, given: &[u8], met: Met, image: &[u8], shelf: &[u8]) -> Card {
+fn run(
+    output: Stdout,
+    card: Card,
+    lent: Lent,
+    given: &[u8],
+    met: Met,
+    image: &[u8],
+    shelf: &[u8],
+) -> Card {
     let mut buffer = [0u8; 261];
     let fed = card.octets(given);
     let gone = gap(fed, lent, image, &mut buffer);
-    answered(gone, met, &buffer, shelf)
+    answered(output, gone, met, &buffer, shelf)
 }
 
 // The rule that applies to a message, where nothing stands before its frame.
@@ -219,43 +228,59 @@ fn met(card: Card, lent: Lent, image: &[u8], message: &[u8]) -> Met {
 }
 
 // A message, in a frame of user data with the FCB that is new.
-fn ask(card: Card, lent: Lent, message: &[u8], image: &[u8], shelf: &[u8]) -> Card {
+fn ask(output: Stdout, card: Card, lent: Lent, message: &[u8], image: &[u8], shelf: &[u8]) -> Card {
     let mut space = [0u8; 261];
     let link = card.link;
     let size = cards::user_data(&mut space, link.fcb, image, message);
     let met = met(card, lent, image, message);
-    run(card, lent, octets::part(&space, 0, size), met, image, shelf)
+    run(
+        output,
+        card,
+        lent,
+        octets::part(&space, 0, size),
+        met,
+        image,
+        shelf,
+    )
 }
 
-fn collect(card: Card, lent: Lent, image: &[u8], shelf: &[u8]) -> Card {
+fn collect(output: Stdout, card: Card, lent: Lent, image: &[u8], shelf: &[u8]) -> Card {
     let link = card.link;
     let frame = cards::collection(link.fcb, image);
-    run(card, lent, &frame, Met::Unknown, image, shelf)
+    run(output, card, lent, &frame, Met::Unknown, image, shelf)
 }
 
 // A gap is a run to which no octets are added.
-fn give(card: Card, lent: Lent, word: Word, given: &[u8], image: &[u8], shelf: &[u8]) -> Card {
+fn give(
+    output: Stdout,
+    card: Card,
+    lent: Lent,
+    word: Word,
+    given: &[u8],
+    image: &[u8],
+    shelf: &[u8],
+) -> Card {
     let clock = lent.clock;
     match word {
-        Word::Octets => collecting(card, given),
-        Word::Characters => collecting_characters(card, given),
-        Word::Ask => ask(card, lent, given, image, shelf),
-        Word::Collect => collect(card, lent, image, shelf),
-        Word::Why => whys::explain(card, image, clock, given),
-        _ => run(card, lent, given, Met::Unknown, image, shelf),
+        Word::Octets => collecting(output, card, given),
+        Word::Characters => collecting_characters(output, card, given),
+        Word::Ask => ask(output, card, lent, given, image, shelf),
+        Word::Collect => collect(output, card, lent, image, shelf),
+        Word::Why => whys::explain(output, card, image, clock, given),
+        _ => run(output, card, lent, given, Met::Unknown, image, shelf),
     }
 }
 
 // ---- requests ----
 
 // What changes nothing.
-fn tell(word: Word, given: &[u8], shelf: &[u8]) {
+fn tell(output: Stdout, word: Word, given: &[u8], shelf: &[u8]) {
     match word {
-        Word::Label => labels::explain(given),
-        Word::Compare => labels::compare(given),
-        Word::Frame => frames::explain(2, given, true, shelf),
-        Word::Message => messages::explain(2, given, shelf),
-        _ => messages::name(given, shelf),
+        Word::Label => labels::explain(output, given),
+        Word::Compare => labels::compare(output, given),
+        Word::Frame => frames::explain(output, 2, given, true, shelf),
+        Word::Message => messages::explain(output, 2, given, shelf),
+        _ => messages::name(output, given, shelf),
     }
 }
 
@@ -288,31 +313,37 @@ fn subject(word: Word) -> About {
     }
 }
 
-fn told(bench: Bench, word: Word, given: &[u8], shelf: &[u8]) -> Bench {
-    tell(word, given, shelf);
+fn told(output: Stdout, bench: Bench, word: Word, given: &[u8], shelf: &[u8]) -> Bench {
+    tell(output, word, given, shelf);
     bench
 }
 
-fn lending(bench: Bench, request: Request, given: &[u8], shelf: &mut [u8]) -> Bench {
+fn lending(
+    output: Stdout,
+    bench: Bench,
+    request: Request,
+    given: &[u8],
+    shelf: &mut [u8],
+) -> Bench {
     let card = bench.card;
     let profile = bench.profile;
     let lent = bench.lent;
     Bench {
         card,
         profile,
-        lent: lend(lent, request, given, shelf),
+        lent: lend(output, lent, request, given, shelf),
     }
 }
 
 // The card as it is now, with its state said.
-fn showing(bench: Bench, request: Request, shelf: &[u8]) -> Bench {
+fn showing(output: Stdout, bench: Bench, request: Request, shelf: &[u8]) -> Bench {
     let word = request.word;
     let before = bench.profile;
     let lent = bench.lent;
     let profile = profile_after(before, request);
     let card = set_up(bench.card, request, octets::part(shelf, 0, lent.image));
-    cards::state(card);
-    cards::profile(profile, is_profile(word));
+    cards::state(output, card);
+    cards::profile(output, profile, is_profile(word));
     Bench {
         card,
         profile,
@@ -320,12 +351,13 @@ fn showing(bench: Bench, request: Request, shelf: &[u8]) -> Bench {
     }
 }
 
-fn giving(bench: Bench, word: Word, given: &[u8], shelf: &[u8]) -> Bench {
+fn giving(output: Stdout, bench: Bench, word: Word, given: &[u8], shelf: &[u8]) -> Bench {
     let card = bench.card;
     let profile = bench.profile;
     let lent = bench.lent;
     Bench {
         card: give(
+            output,
             card,
             lent,
             word,
@@ -339,12 +371,18 @@ fn giving(bench: Bench, word: Word, given: &[u8], shelf: &[u8]) -> Bench {
 }
 
 // A request is carried out.
-pub(crate) fn obey(bench: Bench, request: Request, given: &[u8], shelf: &mut [u8]) -> Bench {
+pub(crate) fn obey(
+    output: Stdout,
+    bench: Bench,
+    request: Request,
+    given: &[u8],
+    shelf: &mut [u8],
+) -> Bench {
     let word = request.word;
     match subject(word) {
-        About::Octets => told(bench, word, given, shelf),
-        About::Lent => lending(bench, request, given, shelf),
-        About::State => showing(bench, request, shelf),
-        About::Card => giving(bench, word, given, shelf),
+        About::Octets => told(output, bench, word, given, shelf),
+        About::Lent => lending(output, bench, request, given, shelf),
+        About::State => showing(output, bench, request, shelf),
+        About::Card => giving(output, bench, word, given, shelf),
     }
 }

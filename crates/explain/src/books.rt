@@ -3,6 +3,7 @@ ghost use Rattle.std.specs.Prelude.{◌<◌};
 
 use crate::words;
 use names::{Checked, Code, Shown};
+use std::io::Stdout;
 
 // What is lent stands on one shelf: the image; whether a book has been given; the chosen book and the Italian one, each with its size in four octets
 // before it. All three have room for the octets of the longest request.
@@ -48,11 +49,11 @@ fn book(shelf: &[u8], which: u8) -> &[u8] {
 }
 
 // A book that is refused as a whole has no faulty entry.
-fn refused(number: u8, entry: usize) {
+fn refused(output: Stdout, number: u8, entry: usize) {
     if entry == 0 {
-        return words::refused(0, number, 0);
+        return words::refused(output, 0, number, 0);
     }
-    words::refused(1, number, entry as u64)
+    words::refused(output, 1, number, entry as u64)
 }
 
 // The place of a refusal among the words.
@@ -67,22 +68,22 @@ fn refusal(number: u8) -> u8
     }
 }
 
-fn checked(checked: Checked) {
+fn checked(output: Stdout, checked: Checked) {
     match checked {
-        Checked::Sound => words::sound_book(),
+        Checked::Sound => words::sound_book(output),
         Checked::Refused(number, entry) => {
-            refused(number, entry);
-            words::refusal(refusal(number));
+            refused(output, number, entry);
+            words::refusal(output, refusal(number));
         }
     }
 }
 
 // A book is lent, sound or not.
-pub(crate) fn lend(shelf: &mut [u8], which: u8, book: &[u8])
+pub(crate) fn lend(output: Stdout, shelf: &mut [u8], which: u8, book: &[u8])
     requires { which < 2 }
 {
-    words::book(which, book.len() as u64);
-    checked(names::check(book));
+    words::book(output, which, book.len() as u64);
+    checked(output, names::check(book));
     octets::put(shelf, GIVEN, &[1]);
     lay(shelf, which, book);
 }
@@ -98,7 +99,7 @@ fn which(book: u8) -> u8
 }
 
 // The name of an event's code, with the book and the entry that have it; or that there is none, or which book is refused.
-pub(crate) fn name(shelf: &[u8], code: Code) {
+pub(crate) fn name(output: Stdout, shelf: &[u8], code: Code) {
     let chosen = book(shelf, 0);
     let italian = book(shelf, 1);
     let looked_up = names::look_up(chosen, italian, code);
@@ -106,11 +107,11 @@ pub(crate) fn name(shelf: &[u8], code: Code) {
     let name = names::name_at(chosen, italian, looked_up);
     match shown {
         Shown::Refused(book, number, entry) => {
-            words::unnamed(which(book));
-            refused(number, entry);
+            words::unnamed(output, which(book));
+            refused(output, number, entry);
         }
-        Shown::Chosen(entry) => words::named(0, entry as u64, name),
-        Shown::Italian(entry) => words::named(1, entry as u64, name),
-        Shown::Nothing => words::unnamed(2),
+        Shown::Chosen(entry) => words::named(output, 0, entry as u64, name),
+        Shown::Italian(entry) => words::named(output, 1, entry as u64, name),
+        Shown::Nothing => words::unnamed(output, 2),
     }
 }

@@ -9,6 +9,7 @@ use fields::IdentityFound;
 use frame::{Control, Reply, Service};
 use profile::{Character, Profile};
 use rules::{Rule, Session};
+use std::io::Stdout;
 
 // The control field of a service that counts, with the FCB that is new to the card.
 fn counted(service: u8, last: u8) -> u8 {
@@ -65,69 +66,77 @@ pub enum Met {
     Unknown,
 }
 
-fn rule(met: Met) {
+fn rule(output: Stdout, met: Met) {
     match met {
         Met::By(rule) => {
-            voice::line(2);
-            words::rule(whys::place(rule));
+            voice::line(output, 2);
+            words::rule(output, whys::place(rule));
         }
         Met::Unknown => {}
     }
 }
 
-fn order(order: Order, time: [u8; 10]) {
+fn order(output: Stdout, order: Order, time: [u8; 10]) {
     match order {
-        Order::NoOrder => words::ordered(0),
+        Order::NoOrder => words::ordered(output, 0),
         Order::SetClock => {
-            words::ordered(1);
-            voice::pairs(octets::part(&time, 0, 7));
+            words::ordered(output, 1);
+            voice::pairs(output, octets::part(&time, 0, 7));
         }
         Order::SetDates => {
-            words::ordered(2);
-            voice::pairs(&time);
+            words::ordered(output, 2);
+            voice::pairs(output, &time);
         }
     }
 }
 
 // The octets of a reply, and what they say.
-fn reply(sent: &[u8], shelf: &[u8]) {
-    voice::line(2);
-    words::reply();
-    voice::pairs(sent);
-    voice::line(2);
-    frames::explain(4, sent, false, shelf);
+fn reply(output: Stdout, sent: &[u8], shelf: &[u8]) {
+    voice::line(output, 2);
+    words::reply(output);
+    voice::pairs(output, sent);
+    voice::line(output, 2);
+    frames::explain(output, 4, sent, false, shelf);
 }
 
 // What a gap answered: its number; where a frame is answered, the order, the rule where the reply is an ACK, the reply.
-pub(crate) fn gap(number: u8, ordered: Order, time: [u8; 10], met: Met, sent: &[u8], shelf: &[u8]) {
-    frames::number(number);
+pub(crate) fn gap(
+    output: Stdout,
+    number: u8,
+    ordered: Order,
+    time: [u8; 10],
+    met: Met,
+    sent: &[u8],
+    shelf: &[u8],
+) {
+    frames::number(output, number);
     if sent.len() == 0 {
         return;
     }
-    order(ordered, time);
+    order(output, ordered, time);
     if octets::octet_at(sent, 1) == Control::ACK {
-        rule(met);
+        rule(output, met);
     }
-    reply(sent, shelf);
+    reply(output, sent, shelf);
 }
 
-fn session(session: Session) {
+fn session(output: Stdout, session: Session) {
     match session {
-        Session::Open(point) => words::session(0, point.0),
-        Session::Closed => words::session(1, 0),
+        Session::Open(point) => words::session(output, 0, point.0),
+        Session::Closed => words::session(output, 1, 0),
     }
 }
 
-fn waits(waiting: Waiting) {
+fn waits(output: Stdout, waiting: Waiting) {
     match waiting {
-        Waiting::NoReply => words::waits(0, 0),
-        Waiting::Mirror(cause) => words::waits(1, cause as u64),
-        Waiting::Denied => words::waits(2, 0),
-        Waiting::Begin => words::waits(3, 0),
-        Waiting::More(given) => words::waits(4, given as u64),
-        Waiting::Type71 => words::waits(5, 0),
-        Waiting::Type72 => words::waits(6, 0),
-        Waiting::Type131 => words::waits(7, 0),
+        Waiting::NoReply => words::waits(output, 0, 0),
+        Waiting::Mirror(cause) => words::waits(output, 1, cause as u64),
+        Waiting::Denied => words::waits(output, 2, 0),
+        Waiting::Begin => words::waits(output, 3, 0),
+        Waiting::More(given) => words::waits(output, 4, given as u64),
+        Waiting::Type71 => words::waits(output, 5, 0),
+        Waiting::Type72 => words::waits(output, 6, 0),
+        Waiting::Type131 => words::waits(output, 7, 0),
     }
 }
 
@@ -141,34 +150,34 @@ fn bit_of(set: bool) -> u8
     0
 }
 
-pub(crate) fn state(card: Card) {
+pub(crate) fn state(output: Stdout, card: Card) {
     let link = card.link;
     let open = link.session;
     let pending = link.pending;
     let waiting = pending.waiting;
-    words::link(bit_of(link.reset), link.fcb);
-    session(open);
-    waits(waiting);
-    words::damaged(card.damaged);
+    words::link(output, bit_of(link.reset), link.fcb);
+    session(output, open);
+    waits(output, waiting);
+    words::damaged(output, card.damaged);
 }
 
 // The profile, where it is eleven bits or is to be `named`: ten bits go without saying.
-pub(crate) fn profile(profile: Profile, named: bool) {
+pub(crate) fn profile(output: Stdout, profile: Profile, named: bool) {
     match profile {
-        Profile::Eleven => words::profile(1),
+        Profile::Eleven => words::profile(output, 1),
         Profile::Ten => {
             if named {
-                words::profile(0);
+                words::profile(output, 0);
             }
         }
     }
 }
 
 // A character that comes in, by its number from 1: nothing is said of a right parity bit.
-pub(crate) fn character(number: u64, character: Character) {
+pub(crate) fn character(output: Stdout, number: u64, character: Character) {
     if character.is_right() {
         return;
     }
-    voice::line(2);
-    words::wrong_parity(number, character.octet, bit_of(character.parity));
+    voice::line(output, 2);
+    words::wrong_parity(output, number, character.octet, bit_of(character.parity));
 }

@@ -5,6 +5,7 @@ use crate::{labels, messages, voice, words};
 use faults::{ImageFault, ImageRule};
 use fields::{DatesFound, IdentityFound, Key};
 use label::LabelB;
+use std::io::Stdout;
 
 // The place of a rule among the words; 19 where none is broken.
 fn place(rule: ImageRule) -> u8
@@ -74,82 +75,88 @@ fn goes_on(group: Group, next: Key) -> bool {
     key.record_address == next.record_address
 }
 
-fn identity(found: IdentityFound) {
+fn identity(output: Stdout, found: IdentityFound) {
     match found {
         IdentityFound::Is(identity) => {
             let link = identity.link;
-            words::head(link.0, identity.date, identity.maker, identity.product);
+            words::head(
+                output,
+                link.0,
+                identity.date,
+                identity.maker,
+                identity.product,
+            );
         }
         IdentityFound::Nothing => {}
     }
 }
 
-fn dates(found: DatesFound) {
+fn dates(output: Stdout, found: DatesFound) {
     match found {
         DatesFound::Is(dates) => {
             let first = dates.first;
             let second = dates.second;
-            messages::range(2, 2, first, second);
+            messages::range(output, 2, 2, first, second);
         }
         DatesFound::Nothing => {}
     }
 }
 
 // Readings have labels a, and events labels b.
-fn counted(group: Group) {
+fn counted(output: Stdout, group: Group) {
     let key = group.key;
     let first = key.label;
     let last = group.last;
     let seconds = key.kind == 5;
-    messages::addressed(key.point, key.record_address);
-    words::many(group.many, key.kind % 2);
-    words::end(0);
-    labels::label(first, seconds);
-    words::end(1);
-    labels::label(last, seconds);
+    messages::addressed(output, key.point, key.record_address);
+    words::many(output, group.many, key.kind % 2);
+    words::end(output, 0);
+    labels::label(output, first, seconds);
+    words::end(output, 1);
+    labels::label(output, last, seconds);
 }
 
 // A group that has ended. The dates are on two lines.
-fn told(group: Group, image: &[u8]) {
+fn told(output: Stdout, group: Group, image: &[u8]) {
     let key = group.key;
     let point = key.point;
     let kind = key.kind;
     if kind == 3 {
-        return dates(fields::dates_of(image));
+        return dates(output, fields::dates_of(image));
     }
-    voice::line(2);
+    voice::line(output, 2);
     match kind {
-        1 => identity(fields::identity_of(image)),
-        2 => words::point(point.0),
-        _ => counted(group),
+        1 => identity(output, fields::identity_of(image)),
+        2 => words::point(output, point.0),
+        _ => counted(output, group),
     }
 }
 
-fn absent(what: u8)
+fn absent(output: Stdout, what: u8)
     requires { what < 4 }
 {
-    voice::line(2);
-    words::missing(what);
+    voice::line(output, 2);
+    words::missing(output, what);
 }
 
 // What does not come between a record of one kind and one of another. Records stand in the order of their kinds; the end counts as kind 6.
-fn missing(from: u8, to: u8) {
+fn missing(output: Stdout, from: u8, to: u8) {
     if from < 3 {
         if 3 < to {
-            absent(0);
+            absent(output, 0);
         }
     }
     if to == 5 {
         if from < 4 {
-            absent(1);
+            absent(output, 1);
         }
     }
     if to == 6 {
         if from < 4 {
-            absent(3);
+            absent(output, 3);
         }
         if from == 4 {
-            absent(2);
+            absent(output, 2);
         }
     }
 }
@@ -163,13 +170,13 @@ fn or_end(kind: u8) -> u8 {
 }
 
 // What is said between two records: nothing inside a group.
-fn between(group: Group, next: Key, image: &[u8]) {
+fn between(output: Stdout, group: Group, next: Key, image: &[u8]) {
     let key = group.key;
     if goes_on(group, next) {
         return;
     }
-    told(group, image);
-    missing(key.kind, or_end(next.kind));
+    told(output, group, image);
+    missing(output, key.kind, or_end(next.kind));
 }
 
 fn grouped(group: Group, next: Key) -> Group {
@@ -180,14 +187,14 @@ fn grouped(group: Group, next: Key) -> Group {
 }
 
 // Record after record of a sound image, which has fewer than 65,535.
-fn records(image: &[u8]) {
+fn records(output: Stdout, image: &[u8]) {
     let mut at = 1;
     let mut group = begun(fields::key_at(image, at));
     let mut i = 0u32;
     while i < 65535 {
         at = records::after(image, at);
         let next = fields::key_at(image, at);
-        between(group, next, image);
+        between(output, group, next, image);
         group = grouped(group, next);
         if next.kind == 0 {
             return;
@@ -197,25 +204,25 @@ fn records(image: &[u8]) {
 }
 
 // What is wrong with an image, if anything is: the record at fault is named, where it is not the image as a whole.
-pub(crate) fn fault(fault: ImageFault) {
+pub(crate) fn fault(output: Stdout, fault: ImageFault) {
     let rule = fault.rule;
     let why = place(rule);
     if 0 < fault.number {
-        words::record(fault.number as u64, fault.place as u64);
+        words::record(output, fault.number as u64, fault.place as u64);
     }
     if why < 19 {
-        words::unsound(why);
+        words::unsound(output, why);
     }
 }
 
-pub(crate) fn explain(image: &[u8]) {
+pub(crate) fn explain(output: Stdout, image: &[u8]) {
     let found = faults::of_image(image);
     let rule = found.rule;
     let many = image.len() as u64;
     if place(rule) == 19 {
-        words::image(many, 1);
-        return records(image);
+        words::image(output, many, 1);
+        return records(output, image);
     }
-    words::image(many, 0);
-    fault(found)
+    words::image(output, many, 0);
+    fault(output, found)
 }

@@ -5,6 +5,7 @@ ghost use Rattle.std.specs.Prelude.{◌<◌};
 use crate::{voice, words};
 use faults::LabelFault;
 use label::{LabelA, LabelB};
+use std::io::Stdout;
 
 // The place of a fault among the words; 12 where there is none.
 fn place(fault: LabelFault) -> u8
@@ -28,63 +29,70 @@ fn place(fault: LabelFault) -> u8
 }
 
 // What is wrong with a label, if anything is.
-fn fault(label: LabelB) {
+fn fault(output: Stdout, label: LabelB) {
     let place = place(faults::of_label_b(label));
     if place < 12 {
-        words::not_valid(place);
+        words::not_valid(output, place);
     }
 }
 
 // The second of a label, where it is shown. It is the same in summer and in standard time.
-fn second(label: LabelB, seconds: bool) {
+fn second(output: Stdout, label: LabelB, seconds: bool) {
     if seconds {
-        words::seconds(label.second(), label.millisecond());
+        words::seconds(output, label.second(), label.millisecond());
     }
 }
 
 // The time as the label says it.
-fn as_said(label: LabelB, seconds: bool) {
+fn as_said(output: Stdout, label: LabelB, seconds: bool) {
     let a = label.a;
     let t = a.date_time();
-    words::when(2000 + t.year as u16, t.month, t.day, t.hour, t.minute);
-    second(label, seconds);
+    words::when(
+        output,
+        2000 + t.year as u16,
+        t.month,
+        t.day,
+        t.hour,
+        t.minute,
+    );
+    second(output, label, seconds);
 }
 
 // The time of a valid label in standard time, by which labels are compared.
-fn standard(label: LabelB, seconds: bool) {
+fn standard(output: Stdout, label: LabelB, seconds: bool) {
     let a = label.a;
     let t = a.standard_time();
-    words::when(t.year, t.month, t.day, t.hour, t.minute);
-    second(label, seconds);
-    words::season(0);
+    words::when(output, t.year, t.month, t.day, t.hour, t.minute);
+    second(output, label, seconds);
+    words::season(output, 0);
 }
 
 // Summer or standard time by SU, the highest bit of the hour's octet. What is not valid has no standard time.
-fn season(label: LabelB, seconds: bool) {
+fn season(output: Stdout, label: LabelB, seconds: bool) {
     let a = label.a;
     if a.hour < 128 {
-        return words::season(0);
+        return words::season(output, 0);
     }
     if label.is_valid() {
-        words::season(2);
-        return standard(label, seconds);
+        words::season(output, 2);
+        return standard(output, label, seconds);
     }
-    words::season(1)
+    words::season(output, 1)
 }
 
 // A label inside something else: its time, and what is wrong with it.
-pub(crate) fn label(label: LabelB, seconds: bool) {
-    as_said(label, seconds);
-    season(label, seconds);
-    fault(label);
+pub(crate) fn label(output: Stdout, label: LabelB, seconds: bool) {
+    as_said(output, label, seconds);
+    season(output, label, seconds);
+    fault(output, label);
 }
 
 fn at_minute(a: LabelA) -> LabelB {
     LabelB { low: 0, high: 0, a }
 }
 
-pub(crate) fn label_a(a: LabelA) {
-    label(at_minute(a), false);
+pub(crate) fn label_a(output: Stdout, a: LabelA) {
+    label(output, at_minute(a), false);
 }
 
 // The label in five octets or seven.
@@ -96,21 +104,21 @@ fn read(given: &[u8]) -> LabelB {
 }
 
 // A minute with its sign. One below 0 is counted from -1 on: so its size fits, whichever it is.
-fn valid(minute: i64) {
+fn valid(output: Stdout, minute: i64) {
     if 0 <= minute {
-        return words::valid(0, minute as u64);
+        return words::valid(output, 0, minute as u64);
     }
-    words::valid(1, (-1 - minute) as u64 + 1)
+    words::valid(output, 1, (-1 - minute) as u64 + 1)
 }
 
 // A label by itself: where it is valid, also its minute since 1 January 2000 00:00 in standard time, which is below 0 for a summer label in the first
 // hour of 2000.
-pub(crate) fn explain(given: &[u8]) {
+pub(crate) fn explain(output: Stdout, given: &[u8]) {
     let read = read(given);
     let a = read.a;
-    label(read, given.len() == 7);
+    label(output, read, given.len() == 7);
     if read.is_valid() {
-        valid(a.instant());
+        valid(output, a.instant());
     }
 }
 
@@ -127,28 +135,28 @@ fn order(first: LabelB, second: LabelB) -> u8
 }
 
 // One of two labels that were to be compared, where it is not valid.
-fn unless_valid(which: u8, label: LabelB)
+fn unless_valid(output: Stdout, which: u8, label: LabelB)
     requires { which < 2 }
 {
     if label.is_valid() {
         return;
     }
-    voice::line(2);
-    words::which(which);
-    fault(label);
+    voice::line(output, 2);
+    words::which(output, which);
+    fault(output, label);
 }
 
 // Two labels a or two labels b, one behind the other. Where one is not valid none comes before the other.
-pub(crate) fn compare(given: &[u8]) {
+pub(crate) fn compare(output: Stdout, given: &[u8]) {
     let half = given.len() / 2;
     let first = read(octets::part(given, 0, half));
     let second = read(octets::part(given, half, half));
     if first.is_valid() {
         if second.is_valid() {
-            return words::order(order(first, second));
+            return words::order(output, order(first, second));
         }
     }
-    words::order(3);
-    unless_valid(0, first);
-    unless_valid(1, second);
+    words::order(output, 3);
+    unless_valid(output, 0, first);
+    unless_valid(output, 1, second);
 }

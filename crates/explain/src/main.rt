@@ -1,3 +1,5 @@
+#![tactic(auto)]
+
 // Explains what the card makes of octets, line by line: labels, frames, messages, images, books of event names, a card that is given runs, and why it
 // refuses a message. Text in, text out.
 ghost use Rattle.std.specs.Prelude.{◌<◌};
@@ -18,18 +20,19 @@ mod words;
 use bench::Bench;
 use lines::Sought;
 use requests::{Request, Step};
+use std::io::{Stdin, Stdout};
 use stream::Window;
 
 // ---- what is read ----
 
 // The window begins with a whole line, or with what is left of the input, or it is full. Each turn reads once.
-fn read_line(space: &mut [u8], window: Window) -> Window {
+fn read_line(from: Stdin, space: &mut [u8], window: Window) -> Window {
     let mut now = window;
     let mut i = 0u32;
     while i < 1048576 {
         let had = stream::seen(space, now).len();
         let size = lines::size(stream::seen(space, now));
-        now = stream::filled(space, now, size);
+        now = stream::filled(from, space, now, size);
         if stream::seen(space, now).len() == had {
             return now;
         }
@@ -52,7 +55,7 @@ fn first_line(read: &[u8]) -> &[u8] {
 }
 
 // The window behind its first line, which is read on where it is too long.
-fn behind_line(space: &mut [u8], window: Window) -> Window {
+fn behind_line(from: Stdin, space: &mut [u8], window: Window) -> Window {
     let mut now = window;
     let mut i = 0u64;
     while i < u64::MAX {
@@ -62,7 +65,7 @@ fn behind_line(space: &mut [u8], window: Window) -> Window {
         if !long {
             return now;
         }
-        now = read_line(space, now);
+        now = read_line(from, space, now);
         i += 1;
     }
     now
@@ -89,67 +92,81 @@ fn request_after(
 // ---- what is done ----
 
 // All words that begin a request.
-fn all_words() {
+fn all_words(output: Stdout) {
     let mut n = 0;
     while n < 21 {
-        words::request(n);
+        words::request(output, n);
         n += 1;
     }
 }
 
-fn expected(place: u8)
+fn expected(output: Stdout, place: u8)
     requires { place < 18 }
 {
-    words::expected(place);
+    words::expected(output, place);
     if place == 0 {
-        all_words();
+        all_words(output);
     }
 }
 
-fn complain(request: Request) {
+fn complain(output: Stdout, request: Request) {
     let argument = request.argument;
     let matter = argument.matter;
     let place = requests::place(matter);
     if argument.column == 0 {
-        words::line(request.line);
+        words::line(output, request.line);
     } else {
-        words::column(request.line, argument.column as u64);
+        words::column(output, request.line, argument.column as u64);
     }
     if place < 18 {
-        expected(place);
+        expected(output, place);
     }
-    voice::line(0);
+    voice::line(output, 0);
 }
 
-fn pass_on(line: &[u8]) {
-    voice::say(lines::passed_on(line));
-    voice::line(0);
+fn pass_on(output: Stdout, line: &[u8]) {
+    voice::say(output, lines::passed_on(line));
+    voice::line(output, 0);
 }
 
-fn carry_out(bench: Bench, request: Request, given: &[u8], shelf: &mut [u8]) -> Bench {
+fn carry_out(
+    output: Stdout,
+    bench: Bench,
+    request: Request,
+    given: &[u8],
+    shelf: &mut [u8],
+) -> Bench {
     let argument = request.argument;
     let next = bench::obey(
+        output,
         bench,
         request,
         octets::part(given, 0, argument.count),
         shelf,
     );
-    voice::line(0);
+    voice::line(output, 0);
     next
 }
 
-fn done(bench: Bench, request: Request, line: &[u8], given: &[u8], shelf: &mut [u8]) -> Bench {
+fn done(
+    output: Stdout,
+    bench: Bench,
+    request: Request,
+    line: &[u8],
+    given: &[u8],
+    shelf: &mut [u8],
+) -> Bench {
     let step = request.step;
     match step {
         Step::PassOn => {
-            pass_on(line);
+            pass_on(output, line);
             bench
         }
         Step::Complain => {
-            complain(request);
+            complain(output, request);
             bench
         }
-        Step::Carry => carry_out(bench, request, given, shelf),
+        Step::Carry => carry_out(output, bench, request, given, shelf),
         _ => bench,
     }
 }
@@ -173,19 +190,21 @@ fn start() -> Desk {
 }
 
 // The next line is read.
-fn reading(desk: Desk, space: &mut [u8]) -> Desk {
+fn reading(from: Stdin, desk: Desk, space: &mut [u8]) -> Desk {
     let bench = desk.bench;
     let request = desk.request;
     Desk {
         bench,
         request,
-        window: read_line(space, desk.window),
+        window: read_line(from, space, desk.window),
         going: desk.going,
     }
 }
 
 // The line that is read is explained, and passed.
 fn explaining(
+    from: Stdin,
+    output: Stdout,
     desk: Desk,
     number: u64,
     space: &mut [u8],
@@ -199,25 +218,39 @@ fn explaining(
     let request = requests::in_profile(read, profile);
     let line = first_line(stream::seen(space, window));
     Desk {
-        bench: done(bench, request, line, given, shelf),
+        bench: done(output, bench, request, line, given, shelf),
         request,
-        window: behind_line(space, window),
+        window: behind_line(from, space, window),
         going: requests::is_going(request),
     }
 }
 
-fn turn(desk: Desk, number: u64, space: &mut [u8], given: &mut [u8], shelf: &mut [u8]) -> Desk {
-    let next = reading(desk, space);
-    explaining(next, number, space, given, shelf)
+fn turn(
+    from: Stdin,
+    output: Stdout,
+    desk: Desk,
+    number: u64,
+    space: &mut [u8],
+    given: &mut [u8],
+    shelf: &mut [u8],
+) -> Desk {
+    let next = reading(from, desk, space);
+    explaining(from, output, next, number, space, given, shelf)
 }
 
 // Lines until the input ends. A loop must end, so its budget is the line's number: no input uses it up.
-fn explain_lines(space: &mut [u8], given: &mut [u8], shelf: &mut [u8]) {
+fn explain_lines(
+    from: Stdin,
+    output: Stdout,
+    space: &mut [u8],
+    given: &mut [u8],
+    shelf: &mut [u8],
+) {
     let mut desk = start();
     let mut number = 0;
     while number < u64::MAX {
         number += 1;
-        let next = turn(desk, number, space, given, shelf);
+        let next = turn(from, output, desk, number, space, given, shelf);
         if next.going {
             desk = next;
         } else {
@@ -227,10 +260,10 @@ fn explain_lines(space: &mut [u8], given: &mut [u8], shelf: &mut [u8]) {
 }
 
 // The longest line with its newline, the octets of the longest request, an image and two books.
-fn main() {
+fn main(rt: HostRuntime) {
     let mut space = [0u8; 262145];
     let mut given = [0u8; 65600];
     let mut shelf = [0u8; 196809];
     books::clear(&mut shelf);
-    explain_lines(&mut space, &mut given, &mut shelf);
+    explain_lines(rt.stdin(), rt.stdout(), &mut space, &mut given, &mut shelf);
 }

@@ -6,6 +6,7 @@ use address::PointAddress;
 use label::{LabelA, LabelB};
 use message::{Header, ObjectRange, Request};
 use names::Code;
+use std::io::Stdout;
 
 // The octets of an object (number, value, quality) and of an event (SPA, SPQ and SPI, label b).
 const OBJECT: usize = 6;
@@ -67,63 +68,63 @@ fn address_place(address: u8) -> u8
     }
 }
 
-pub(crate) fn addressed(point: PointAddress, address: u8) {
-    words::addressed(point.0, address, address_place(address));
+pub(crate) fn addressed(output: Stdout, point: PointAddress, address: u8) {
+    words::addressed(output, point.0, address, address_place(address));
 }
 
 // The cause's octet has T and P/N above the cause.
-fn header(header: Header) {
+fn header(output: Stdout, header: Header) {
     let type_id = header.type_id;
     let cause = header.cause % 64;
-    words::type_id(type_id, type_place(type_id));
-    words::structure(header.structure / 128, header.structure % 128);
-    words::cause(cause, cause_place(cause));
-    words::marks(header.cause / 64);
-    addressed(header.point, header.record_address);
+    words::type_id(output, type_id, type_place(type_id));
+    words::structure(output, header.structure / 128, header.structure % 128);
+    words::cause(output, cause, cause_place(cause));
+    words::marks(output, header.cause / 64);
+    addressed(output, header.point, header.record_address);
 }
 
 // A label on a line of its own.
-fn dated(indent: usize, role: u8, label: LabelA)
+fn dated(output: Stdout, indent: usize, role: u8, label: LabelA)
     requires { role < 6 }
 {
-    voice::line(indent);
-    words::role(role);
-    labels::label_a(label);
+    voice::line(output, indent);
+    words::role(output, role);
+    labels::label_a(output, label);
 }
 
 // From and to; or, from role 2 on, the two switch dates.
-pub(crate) fn range(indent: usize, role: u8, first: LabelA, last: LabelA)
+pub(crate) fn range(output: Stdout, indent: usize, role: u8, first: LabelA, last: LabelA)
     requires { role < 5 }
 {
-    dated(indent, role, first);
-    dated(indent, role + 1, last);
+    dated(output, indent, role, first);
+    dated(output, indent, role + 1, last);
 }
 
-fn objects(objects: ObjectRange) {
+fn objects(output: Stdout, objects: ObjectRange) {
     if objects.are_offered() {
-        return words::objects(0, objects.first, objects.last);
+        return words::objects(output, 0, objects.first, objects.last);
     }
-    words::objects(1, objects.first, objects.last)
+    words::objects(output, 1, objects.first, objects.last)
 }
 
-fn readings(indent: usize, request: Request) {
+fn readings(output: Stdout, indent: usize, request: Request) {
     let first = request.first;
     let last = request.last;
-    voice::line(indent);
-    objects(request.objects);
-    range(indent, 0, first, last);
+    voice::line(output, indent);
+    objects(output, request.objects);
+    range(output, indent, 0, first, last);
 }
 
-fn time(indent: usize, label: LabelB) {
-    voice::line(indent);
-    words::role(4);
-    labels::label(label, true);
+fn time(output: Stdout, indent: usize, label: LabelB) {
+    voice::line(output, indent);
+    words::role(output, 4);
+    labels::label(output, label, true);
 }
 
-fn password(indent: usize, password: u32) {
+fn password(output: Stdout, indent: usize, password: u32) {
     let low_first = octets::low_octets_4(password);
-    voice::line(indent);
-    words::password(low_first);
+    voice::line(output, indent);
+    words::password(output, low_first);
 }
 
 fn number_at(m: &[u8], at: usize) -> u32 {
@@ -136,9 +137,10 @@ fn number_at(m: &[u8], at: usize) -> u32 {
     )
 }
 
-fn identity(indent: usize, m: &[u8]) {
-    voice::line(indent);
+fn identity(output: Stdout, indent: usize, m: &[u8]) {
+    voice::line(output, indent);
     words::identity(
+        output,
         octets::octet_at(m, 6),
         octets::octet_at(m, 7),
         number_at(m, 8),
@@ -146,24 +148,24 @@ fn identity(indent: usize, m: &[u8]) {
 }
 
 // A value of 32 bits: from half of them on it is below zero.
-fn value(object: u8, bits: u32) {
+fn value(output: Stdout, object: u8, bits: u32) {
     if bits < 0x8000_0000 {
-        return words::object(object, 0, bits as u64);
+        return words::object(output, object, 0, bits as u64);
     }
-    words::object(object, 1, 0x1_0000_0000 - bits as u64)
+    words::object(output, object, 1, 0x1_0000_0000 - bits as u64)
 }
 
 // The bits that are set, by name, from the highest on.
-fn quality(quality: u8) {
+fn quality(output: Stdout, quality: u8) {
     if quality == 0 {
         return;
     }
-    words::quality();
+    words::quality(output);
     let mut left = quality;
     let mut at = 0;
     while at < 8 {
         if left / 128 == 1 {
-            words::quality_bit(at);
+            words::quality_bit(output, at);
         }
         left = left % 128 * 2;
         at += 1;
@@ -171,54 +173,55 @@ fn quality(quality: u8) {
 }
 
 // An object's number, its value and its quality.
-fn object(m: &[u8]) {
-    value(octets::octet_at(m, 0), number_at(m, 1));
-    quality(octets::octet_at(m, 5));
+fn object(output: Stdout, m: &[u8]) {
+    value(output, octets::octet_at(m, 0), number_at(m, 1));
+    quality(output, octets::octet_at(m, 5));
 }
 
 // The two octets of an event say its code and SPI, which is the lowest bit.
-fn code(m: &[u8], labelled: u8) -> Code
+fn code(output: Stdout, m: &[u8], labelled: u8) -> Code
     requires { labelled < 2 }
 {
     let octet = octets::octet_at(m, 1);
     let code = Code::of_event(octets::octet_at(m, 0), octet);
-    words::event(labelled, code.spa, code.spq, octet % 2);
+    words::event(output, labelled, code.spa, code.spq, octet % 2);
     code
 }
 
 // An event with its label, and its name where a book has been given.
-fn event(m: &[u8], shelf: &[u8]) {
-    let code = code(m, 1);
-    labels::label(LabelB::read(octets::part(m, 2, 7)), true);
+fn event(output: Stdout, m: &[u8], shelf: &[u8]) {
+    let code = code(output, m, 1);
+    labels::label(output, LabelB::read(octets::part(m, 2, 7)), true);
     if books::are_given(shelf) {
-        books::name(shelf, code);
+        books::name(output, shelf, code);
     }
 }
 
 // An event's two octets by themselves, and its name.
-pub(crate) fn name(given: &[u8], shelf: &[u8]) {
-    books::name(shelf, code(given, 0));
+pub(crate) fn name(output: Stdout, given: &[u8], shelf: &[u8]) {
+    books::name(output, shelf, code(output, given, 0));
 }
 
 // Objects or events behind the header, by their size.
-fn items(indent: usize, m: &[u8], many: u8, size: usize, shelf: &[u8]) {
+fn items(output: Stdout, indent: usize, m: &[u8], many: u8, size: usize, shelf: &[u8]) {
     let mut at = 6;
     let mut left = many;
     while 0 < left {
-        voice::line(indent);
+        voice::line(output, indent);
         if size == OBJECT {
-            object(octets::part(m, at, size));
+            object(output, octets::part(m, at, size));
         } else {
-            event(octets::part(m, at, size), shelf);
+            event(output, octets::part(m, at, size), shelf);
         }
         at = std::num::wrapping_add_usize(at, size);
         left -= 1;
     }
 }
 
-fn reading(indent: usize, m: &[u8], many: u8) {
-    items(indent, m, many, OBJECT, b"");
+fn reading(output: Stdout, indent: usize, m: &[u8], many: u8) {
+    items(output, indent, m, many, OBJECT, b"");
     dated(
+        output,
         indent,
         5,
         LabelA::read(octets::part(m, 6 + many as usize * OBJECT, 5)),
@@ -241,55 +244,55 @@ fn size(type_id: u8, many: u8) -> usize {
 }
 
 // What stands behind the header, where the octets are as many as there have to be.
-fn body(indent: usize, m: &[u8], request: Request, shelf: &[u8]) {
+fn body(output: Stdout, indent: usize, m: &[u8], request: Request, shelf: &[u8]) {
     let head = request.header;
     let first = request.first;
     let last = request.last;
     let label = request.time;
     let type_id = head.type_id;
     match type_id {
-        1 => items(indent, m, head.structure, EVENT, shelf),
-        8 | 11 => reading(indent, m, head.structure),
-        71 => identity(indent, m),
-        72 | 181 => time(indent, label),
-        102 => range(indent, 0, first, last),
-        122 | 123 => readings(indent, request),
-        131 | 186 => range(indent, 2, first, last),
-        183 => password(indent, request.password),
+        1 => items(output, indent, m, head.structure, EVENT, shelf),
+        8 | 11 => reading(output, indent, m, head.structure),
+        71 => identity(output, indent, m),
+        72 | 181 => time(output, indent, label),
+        102 => range(output, indent, 0, first, last),
+        122 | 123 => readings(output, indent, request),
+        131 | 186 => range(output, indent, 2, first, last),
+        183 => password(output, indent, request.password),
         _ => {}
     }
 }
 
 // Octets on a line of their own: 0 as they are, 1 because they do not fit, 2 where there are none that could fit.
-fn shown(indent: usize, why: u8, some: &[u8])
+fn shown(output: Stdout, indent: usize, why: u8, some: &[u8])
     requires { why < 3 }
 {
-    voice::line(indent);
-    words::octets(why);
-    voice::pairs(some);
+    voice::line(output, indent);
+    words::octets(output, why);
+    voice::pairs(output, some);
 }
 
 // Octets that are no message of those that are used here, if there are any.
-pub(crate) fn unread(indent: usize, some: &[u8]) {
+pub(crate) fn unread(output: Stdout, indent: usize, some: &[u8]) {
     if 0 < some.len() {
-        shown(indent, 0, some);
+        shown(output, indent, 0, some);
     }
 }
 
 // A message of six octets or more. What stands behind the header is on lines of its own.
-pub(crate) fn explain(indent: usize, m: &[u8], shelf: &[u8]) {
+pub(crate) fn explain(output: Stdout, indent: usize, m: &[u8], shelf: &[u8]) {
     let request = Request::read(m);
     let head = request.header;
     let size = size(head.type_id, head.structure);
-    header(head);
+    header(output, head);
     if m.len() == size {
-        return body(indent, m, request, shelf);
+        return body(output, indent, m, request, shelf);
     }
     if size == 0 {
-        return unread(indent, octets::part(m, 6, m.len()));
+        return unread(output, indent, octets::part(m, 6, m.len()));
     }
     if m.len() == 6 {
-        return shown(indent, 2, b"");
+        return shown(output, indent, 2, b"");
     }
-    shown(indent, 1, octets::part(m, 6, m.len()))
+    shown(output, indent, 1, octets::part(m, 6, m.len()))
 }

@@ -4,24 +4,28 @@ ghost use Rattle.std.specs.Prelude.{◌<◌};
 ghost use Rattle.explain.specs.Words.{words_in};
 
 use crate::lines::{Sought, between, find, one_more};
+use std::io::Stdout;
 
-pub(crate) fn say(text: &[u8]) {
-    io::write_all(1, text);
+pub(crate) fn say(output: Stdout, text: &[u8]) {
+    stream::say(output, text);
 }
 
 // A new line, which begins with so many blanks, eight at most.
-pub(crate) fn line(indent: usize) {
+pub(crate) fn line(output: Stdout, indent: usize) {
     let blanks = octets::part(b"        ", 0, indent);
-    say(b"\n");
-    say(blanks);
+    say(output, b"\n");
+    say(output, blanks);
 }
 
 // A number with so many figures at least, of which there may be three.
-fn number(n: u64, least: usize) {
-    let mut figures = [0u8; 20];
-    let count = io::decimal(n, &mut figures);
-    say(octets::part(octets::part(b"000", 0, least), count, 3));
-    say(&figures[..count]);
+fn number(output: Stdout, n: u64, least: usize) {
+    let mut figures = itoa::Buffer::new();
+    let text = figures.format(n).as_bytes();
+    say(
+        output,
+        octets::part(octets::part(b"000", 0, least), text.len(), 3),
+    );
+    say(output, text);
 }
 
 fn figure(n: u8) -> u8 {
@@ -34,16 +38,16 @@ fn figure(n: u8) -> u8 {
     63
 }
 
-fn pair(octet: u8) {
-    say(&[figure(octet / 16), figure(octet % 16)]);
+fn pair(output: Stdout, octet: u8) {
+    say(output, &[figure(octet / 16), figure(octet % 16)]);
 }
 
 // Octets in hex, each behind a blank.
-pub(crate) fn pairs(some: &[u8]) {
+pub(crate) fn pairs(output: Stdout, some: &[u8]) {
     let mut i = 0;
     while i < some.len() {
-        say(b" ");
-        pair(some[i]);
+        say(output, b" ");
+        pair(output, some[i]);
         i += 1;
     }
 }
@@ -74,13 +78,13 @@ fn mark_of(c: u8) -> Mark {
 }
 
 // Nothing is said where the octet stands for itself: it is said with those around it.
-fn marked(mark: Mark, n: u64, word: &[u8]) {
+fn marked(output: Stdout, mark: Mark, n: u64, word: &[u8]) {
     match mark {
-        Mark::Figures(least) => number(n, least),
+        Mark::Figures(least) => number(output, n, least),
         Mark::Unsaid => {}
-        Mark::Hex => pair((n % 256) as u8),
-        Mark::Word => say(word),
-        Mark::Semicolon => say(b";"),
+        Mark::Hex => pair(output, (n % 256) as u8),
+        Mark::Word => say(output, word),
+        Mark::Semicolon => say(output, b";"),
         Mark::Itself => {}
     }
 }
@@ -104,10 +108,10 @@ fn unsaid_from(mark: Mark, from: usize, at: usize) -> usize {
 }
 
 // The octets before a mark.
-fn before(mark: Mark, unsaid: &[u8]) {
+fn before(output: Stdout, mark: Mark, unsaid: &[u8]) {
     match mark {
         Mark::Itself => {}
-        _ => say(unsaid),
+        _ => say(output, unsaid),
     }
 }
 
@@ -120,23 +124,23 @@ fn value_at(values: [u64; 6], at: usize) -> u64 {
 }
 
 // A phrase with its numbers and its word.
-pub(crate) fn sentence(phrase: &[u8], values: [u64; 6], word: &[u8]) {
+pub(crate) fn sentence(output: Stdout, phrase: &[u8], values: [u64; 6], word: &[u8]) {
     let mut used = 0;
     let mut from = 0;
     let mut i = 0;
     while i < phrase.len() {
         let mark = mark_of(phrase[i]);
-        before(mark, between(phrase, from, i));
-        marked(mark, value_at(values, used), word);
+        before(output, mark, between(phrase, from, i));
+        marked(output, mark, value_at(values, used), word);
         used = used_up(mark, used);
         from = unsaid_from(mark, from, i);
         i += 1;
     }
-    say(between(phrase, from, i));
+    say(output, between(phrase, from, i));
 }
 
-pub(crate) fn phrase(phrase: &[u8], values: [u64; 6]) {
-    sentence(phrase, values, b"");
+pub(crate) fn phrase(output: Stdout, phrase: &[u8], values: [u64; 6]) {
+    sentence(output, phrase, values, b"");
 }
 
 // Where the word that begins at a place ends.
@@ -157,22 +161,22 @@ pub(crate) fn nth(table: &[u8], n: u8) -> &[u8]
     between(table, from, word_end(table, from))
 }
 
-pub(crate) fn word(table: &[u8], n: u8)
+pub(crate) fn word(output: Stdout, table: &[u8], n: u8)
     requires { n < words_in table.now }
 {
-    say(nth(table, n));
+    say(output, nth(table, n));
 }
 
 // A phrase that stands in a table.
-pub(crate) fn phrase_of(table: &[u8], n: u8, values: [u64; 6])
+pub(crate) fn phrase_of(output: Stdout, table: &[u8], n: u8, values: [u64; 6])
     requires { n < words_in table.now }
 {
-    sentence(nth(table, n), values, b"");
+    sentence(output, nth(table, n), values, b"");
 }
 
 // A phrase in which a word of a table stands.
-pub(crate) fn naming(phrase: &[u8], values: [u64; 6], table: &[u8], n: u8)
+pub(crate) fn naming(output: Stdout, phrase: &[u8], values: [u64; 6], table: &[u8], n: u8)
     requires { n < words_in table.now }
 {
-    sentence(phrase, values, nth(table, n));
+    sentence(output, phrase, values, nth(table, n));
 }

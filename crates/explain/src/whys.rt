@@ -9,6 +9,7 @@ use card::Card;
 use label::{LabelA, LabelB};
 use message::{Addresses, Request, Row, RowFound};
 use rules::{Rule, Session};
+use std::io::Stdout;
 use why::Why;
 
 // The place of a rule among the words.
@@ -44,27 +45,27 @@ fn numbers(session: Session, request: Request) -> [u64; 6] {
 // ---- what was found ----
 
 // The record at a place, where it is a point, behind so many records that were looked at `before`.
-fn listed(image: &[u8], at: usize, before: u8) {
+fn listed(output: Stdout, image: &[u8], at: usize, before: u8) {
     let key = fields::key_at(image, at);
     let point = key.point;
     if key.kind == 2 {
         if before == 0 {
-            return words::points(0, point.0);
+            return words::points(output, 0, point.0);
         }
-        words::points(1, point.0)
+        words::points(output, 1, point.0)
     }
 }
 
 // The points of a sound image, of which eight at most stand behind its first record, and the one asked for.
-fn points(image: &[u8], asked: PointAddress) {
+fn points(output: Stdout, image: &[u8], asked: PointAddress) {
     let mut at = 1;
     let mut before = 0;
     while before < 8 {
         at = records::after(image, at);
-        listed(image, at, before);
+        listed(output, image, at, before);
         before += 1;
     }
-    words::points(2, asked.0);
+    words::points(output, 2, asked.0);
 }
 
 // What a part counts that is not the same.
@@ -88,12 +89,13 @@ fn differing(row: Row, request: Request) -> u8
     octets + cause + structure + unless(head.structure < 128, 4)
 }
 
-fn shape(found: RowFound, request: Request) {
+fn shape(output: Stdout, found: RowFound, request: Request) {
     let head = request.header;
     match found {
         RowFound::Is(row) => {
-            words::shape(row.octets, row.cause, row.count);
+            words::shape(output, row.octets, row.cause, row.count);
             words::shaped(
+                output,
                 differing(row, request),
                 request.octets as u64,
                 head.cause % 64,
@@ -104,13 +106,13 @@ fn shape(found: RowFound, request: Request) {
     }
 }
 
-fn address(found: RowFound, address: u8) {
+fn address(output: Stdout, found: RowFound, address: u8) {
     match found {
         RowFound::Is(row) => {
             let addresses = row.addresses;
             match addresses {
-                Addresses::Only(own) => words::addresses(0, own, address),
-                Addresses::Events => words::addresses(1, 0, address),
+                Addresses::Only(own) => words::addresses(output, 0, own, address),
+                Addresses::Events => words::addresses(output, 1, 0, address),
             }
         }
         RowFound::Nothing => {}
@@ -118,7 +120,7 @@ fn address(found: RowFound, address: u8) {
 }
 
 // A label, unless it is valid and only what is `at_fault` is to be said.
-fn label(role: u8, label: LabelA, at_fault: bool)
+fn label(output: Stdout, role: u8, label: LabelA, at_fault: bool)
     requires { role < 6 }
 {
     if at_fault {
@@ -126,53 +128,53 @@ fn label(role: u8, label: LabelA, at_fault: bool)
             return;
         }
     }
-    words::found(role);
-    labels::label_a(label)
+    words::found(output, role);
+    labels::label_a(output, label)
 }
 
 // From and to; or, from role 2 on, the two switch dates.
-fn range(role: u8, first: LabelA, last: LabelA, at_fault: bool)
+fn range(output: Stdout, role: u8, first: LabelA, last: LabelA, at_fault: bool)
     requires { role < 5 }
 {
-    label(role, first, at_fault);
-    label(role + 1, last, at_fault);
+    label(output, role, first, at_fault);
+    label(output, role + 1, last, at_fault);
 }
 
-fn time(label: LabelB) {
-    words::found(4);
-    labels::label(label, true);
+fn time(output: Stdout, label: LabelB) {
+    words::found(output, 4);
+    labels::label(output, label, true);
 }
 
 // 181 sets one label b, 186 two labels a.
-fn to_set(request: Request) {
+fn to_set(output: Stdout, request: Request) {
     let head = request.header;
     let first = request.first;
     let last = request.last;
     if head.type_id == 181 {
-        return time(request.time);
+        return time(output, request.time);
     }
-    range(2, first, last, true)
+    range(output, 2, first, last, true)
 }
 
 // What was found, where the numbers of the sentence do not say it.
-fn found(rule: Rule, image: &[u8], clock: [u8; 7], request: Request) {
+fn found(output: Stdout, rule: Rule, image: &[u8], clock: [u8; 7], request: Request) {
     let head = request.header;
     let first = request.first;
     let last = request.last;
     match rule {
-        Rule::Marked => words::marked(head.cause / 64),
-        Rule::UnknownPoint => points(image, head.point),
-        Rule::Shape => shape(message::row_of(head.type_id), request),
-        Rule::Address => address(message::row_of(head.type_id), head.record_address),
-        Rule::ReadingLabel => range(0, first, last, true),
-        Rule::ReadingRange => range(0, first, last, false),
-        Rule::NoReading => range(0, first, last, false),
-        Rule::EventLabel => range(0, first, last, true),
-        Rule::EventRange => range(0, first, last, false),
-        Rule::NoEvent => range(0, first, last, false),
-        Rule::ClockUnset => time(LabelB::read(&clock)),
-        Rule::TimeLabel => to_set(request),
-        Rule::WrongPassword => words::password(octets::low_octets_4(request.password)),
+        Rule::Marked => words::marked(output, head.cause / 64),
+        Rule::UnknownPoint => points(output, image, head.point),
+        Rule::Shape => shape(output, message::row_of(head.type_id), request),
+        Rule::Address => address(output, message::row_of(head.type_id), head.record_address),
+        Rule::ReadingLabel => range(output, 0, first, last, true),
+        Rule::ReadingRange => range(output, 0, first, last, false),
+        Rule::NoReading => range(output, 0, first, last, false),
+        Rule::EventLabel => range(output, 0, first, last, true),
+        Rule::EventRange => range(output, 0, first, last, false),
+        Rule::NoEvent => range(output, 0, first, last, false),
+        Rule::ClockUnset => time(output, LabelB::read(&clock)),
+        Rule::TimeLabel => to_set(output, request),
+        Rule::WrongPassword => words::password(output, octets::low_octets_4(request.password)),
         _ => {}
     }
 }
@@ -180,32 +182,48 @@ fn found(rule: Rule, image: &[u8], clock: [u8; 7], request: Request) {
 // ---- the request ----
 
 // A rule's sentence, and what to look at where it refuses.
-fn named(rule: Rule, session: Session, image: &[u8], clock: [u8; 7], request: Request) {
+fn named(
+    output: Stdout,
+    rule: Rule,
+    session: Session,
+    image: &[u8],
+    clock: [u8; 7],
+    request: Request,
+) {
     let place = place(rule);
-    words::right(place, numbers(session, request));
-    found(rule, image, clock, request);
+    words::right(output, place, numbers(session, request));
+    found(output, rule, image, clock, request);
     if place < 18 {
-        voice::line(2);
-        words::look_at(place);
+        voice::line(output, 2);
+        words::look_at(output, place);
     }
 }
 
 // The library's line, without its newline; then the sentence. The card is handed back as it was.
-pub(crate) fn explain(card: Card, image: &[u8], clock: [u8; 7], message: &[u8]) -> Card {
+pub(crate) fn explain(
+    output: Stdout,
+    card: Card,
+    image: &[u8],
+    clock: [u8; 7],
+    message: &[u8],
+) -> Card {
     let link = card.link;
     let session = link.session;
     let why = why::ask(card, image, clock, message);
     let line = why::line(why);
     let text = line.octets;
-    voice::say(octets::part(&text, 0, lines::find(&text, 0, Sought::Newline)));
-    voice::line(2);
+    voice::say(
+        output,
+        octets::part(&text, 0, lines::find(&text, 0, Sought::Newline)),
+    );
+    voice::line(output, 2);
     match why {
         Why::ImageUnsound => {
-            words::unasked(0, 0);
-            images::fault(faults::of_image(image));
+            words::unasked(output, 0, 0);
+            images::fault(output, faults::of_image(image));
         }
-        Why::MessageLength => words::unasked(1, message.len() as u64),
-        Why::Named(rule) => named(rule, session, image, clock, Request::read(message)),
+        Why::MessageLength => words::unasked(output, 1, message.len() as u64),
+        Why::Named(rule) => named(output, rule, session, image, clock, Request::read(message)),
     }
     card
 }

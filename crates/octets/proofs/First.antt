@@ -1,6 +1,6 @@
 -- The first that applies: what is given is that of a rule whose test holds, and no test before it does.
 -- By the rules, one after the other. Assumes nothing.
-use Rattle.std.proofs.Common.{◌≡◌, Bool, true, false, List, [], ◌∷◌}
+use Rattle.std.proofs.Common.{◌≡◌, true, false, List, [], ◌∷◌}
 use Rattle.octets.specs.Choice.{when◌then◌else◌}
 use Rattle.octets.specs.First.{When, first_of◌else◌}
 use Rattle.octets.proofs.Choice.{either}

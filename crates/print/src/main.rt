@@ -1,6 +1,9 @@
+#![tactic(auto)]
+
 // The printing program: reads an input, takes turn after turn of it and writes what each gives. Document 01, "The printing program"; the
 // crate `turns` defines what is printed, and proves each turn.
 use card::Card;
+use std::io::{Stdin, Stdout};
 use stream::{Texts, Window};
 use turns::Left;
 
@@ -13,31 +16,32 @@ struct Talk {
 }
 
 // The window begins with version, image length, image and clock. Each reading says how much more is to be read.
-fn read_head(space: &mut [u8]) -> Window {
+fn read_head(input: Stdin, space: &mut [u8]) -> Window {
     let none = Window { from: 0, to: 0 };
-    let version = stream::filled(space, none, input::head_size(b""));
+    let version = stream::filled(input, space, none, input::head_size(b""));
     let start = stream::filled(
+        input,
         space,
         version,
         input::head_size(stream::seen(space, version)),
     );
     let size = input::head_size(stream::seen(space, start));
-    stream::filled(space, start, size)
+    stream::filled(input, space, start, size)
 }
 
 // The window begins with a run and its length, or with what is left of the input.
-fn read_run(space: &mut [u8], window: Window) -> Window {
-    let start = stream::filled(space, window, input::run_size(b""));
+fn read_run(input: Stdin, space: &mut [u8], window: Window) -> Window {
+    let start = stream::filled(input, space, window, input::run_size(b""));
     let size = input::run_size(stream::seen(space, start));
-    stream::filled(space, start, size)
+    stream::filled(input, space, start, size)
 }
 
 // What waits is written where the next run is still to be read, so that a centre that waits for an answer has it.
-fn before_reading(block: &[u8], texts: Texts, read: &[u8]) -> Texts {
+fn before_reading(output: Stdout, block: &[u8], texts: Texts, read: &[u8]) -> Texts {
     if input::run_size(read) <= read.len() {
         return texts;
     }
-    stream::out(block, texts)
+    stream::out(output, block, texts)
 }
 
 // The turn of a run with its length: it is lent the image and the clock of the head.
@@ -49,6 +53,7 @@ fn step(card: Card, head: &[u8], number: u64, run: &[u8], text: &mut [u8]) -> Le
 
 // The run that stands first in what is read, and its text.
 fn answer(
+    output: Stdout,
     talk: Talk,
     head: &[u8],
     number: u64,
@@ -66,6 +71,7 @@ fn answer(
         card,
         rest: stream::taken(window, size),
         texts: stream::tell(
+            output,
             block,
             talk.texts,
             octets::part(text, 0, left.count),
@@ -76,6 +82,8 @@ fn answer(
 
 // The next run of the input.
 fn turn(
+    input: Stdin,
+    output: Stdout,
     talk: Talk,
     head: &[u8],
     number: u64,
@@ -84,18 +92,26 @@ fn turn(
     text: &mut [u8],
 ) -> Talk {
     let mut next = talk;
-    next.texts = before_reading(block, talk.texts, stream::seen(space, talk.rest));
-    next.rest = read_run(space, talk.rest);
-    answer(next, head, number, space, block, text)
+    next.texts = before_reading(output, block, talk.texts, stream::seen(space, talk.rest));
+    next.rest = read_run(input, space, talk.rest);
+    answer(output, next, head, number, space, block, text)
 }
 
 // Runs until the input ends. A loop must end, so its budget is the run number: no input uses it up.
-fn runs(first: Talk, head: &[u8], space: &mut [u8], block: &mut [u8], text: &mut [u8]) {
+fn runs(
+    input: Stdin,
+    output: Stdout,
+    first: Talk,
+    head: &[u8],
+    space: &mut [u8],
+    block: &mut [u8],
+    text: &mut [u8],
+) {
     let mut talk = first;
     let mut number = 0;
     while number < u64::MAX {
         number += 1;
-        talk = turn(talk, head, number, space, block, text);
+        talk = turn(input, output, talk, head, number, space, block, text);
         if talk.texts.going {} else {
             return;
         }
@@ -103,7 +119,7 @@ fn runs(first: Talk, head: &[u8], space: &mut [u8], block: &mut [u8], text: &mut
 }
 
 // The turn of the head that stands first in what is read, and its text.
-fn begin(space: &[u8], window: Window, block: &mut [u8], text: &mut [u8]) -> Talk {
+fn begin(output: Stdout, space: &[u8], window: Window, block: &mut [u8], text: &mut [u8]) -> Talk {
     let read = stream::seen(space, window);
     let left = turns::start(text, read);
     let card = left.card;
@@ -114,7 +130,13 @@ fn begin(space: &[u8], window: Window, block: &mut [u8], text: &mut [u8]) -> Tal
     Talk {
         card,
         rest: stream::taken(window, input::head_size(read)),
-        texts: stream::tell(block, none, octets::part(text, 0, left.count), left.more),
+        texts: stream::tell(
+            output,
+            block,
+            none,
+            octets::part(text, 0, left.count),
+            left.more,
+        ),
     }
 }
 
@@ -124,19 +146,35 @@ fn keep_head(head: &mut [u8], read: &[u8]) {
 }
 
 // The runs behind a head, where there are any.
-fn go_on(talk: Talk, head: &[u8], space: &mut [u8], block: &mut [u8], text: &mut [u8]) {
+fn go_on(
+    input: Stdin,
+    output: Stdout,
+    talk: Talk,
+    head: &[u8],
+    space: &mut [u8],
+    block: &mut [u8],
+    text: &mut [u8],
+) {
     if talk.texts.going {
-        runs(talk, head, space, block, text);
+        runs(input, output, talk, head, space, block, text);
     }
 }
 
-fn main() {
+fn main(rt: HostRuntime) {
     let mut space = [0u8; 131072];
     let mut head = [0u8; 65545];
     let mut block = [0u8; 65536];
     let mut text = [0u8; 1024];
-    let window = read_head(&mut space);
+    let window = read_head(rt.stdin(), &mut space);
     keep_head(&mut head, stream::seen(&space, window));
-    let talk = begin(&space, window, &mut block, &mut text);
-    go_on(talk, &head, &mut space, &mut block, &mut text);
+    let talk = begin(rt.stdout(), &space, window, &mut block, &mut text);
+    go_on(
+        rt.stdin(),
+        rt.stdout(),
+        talk,
+        &head,
+        &mut space,
+        &mut block,
+        &mut text,
+    );
 }

@@ -1,3 +1,4 @@
+#![tactic(auto)]
 // The turns of the printing program: the head, then run after run. Each writes its text into a lent buffer, so that the program only reads,
 // steps and writes.
 ghost use Rattle.std.specs.Prelude.{◌≤◌, [], ◌≡◌, length, take};

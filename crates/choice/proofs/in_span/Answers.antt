@@ -4,7 +4,6 @@ use mathlib.Core.Path.{◌∙◌}
 use borrow.Author.Tests.{eq-eqb, ne_eqb}
 use Rattle.label.proofs.Label.{back}
 use Rattle.choice.specs.working.Keys.{key_in_span}
-use borrow.Author.Rules.{rules}
 use Rattle.choice.proofs.in_span.Goals as goal
 
 pub returns-then-key-kind : goal.returns-then-key-kind

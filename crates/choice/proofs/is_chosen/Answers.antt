@@ -4,7 +4,6 @@ use mathlib.Core.Path.{◌∙◌}
 use native.Mathlib.Omega.{arith}
 use Rattle.choice.specs.working.Keys.{key_chosen}
 use Rattle.choice.proofs.Chosen.{as_kind}
-use borrow.Author.Rules.{rules}
 use Rattle.choice.proofs.is_chosen.Goals as goal
 
 pub returns-in-Reading : goal.returns-in-Reading

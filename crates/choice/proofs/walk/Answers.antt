@@ -1,13 +1,8 @@
 -- `choice::walk` answers the place of the n-th chosen among the records from a place on.
 -- The loop's invariant: what is left to pass from here on comes to the same. Assumes nothing.
-use Prim.Native.Nat.{◌-◌}
-use mathlib.Core.Path.{◌≡◌, refl, ◌∙◌}
-use borrow.Author.Rules.{rules}
+use mathlib.Core.Path.{refl, ◌∙◌}
 use native.Mathlib.Omega.{arith}
-use lib.ListN.{length}
-use Rattle.records.specs.Records.{place_after}
 use Rattle.records.proofs.Records.{stands, stands_not, after_within}
-use Rattle.choice.specs.Calls.{places_from, nth_place}
 use Rattle.choice.proofs.Chosen.{chosen_there, walk_end, walk_here, walk_skip, walk_pass}
 use Rattle.choice.proofs.walk.Goals as goal
 

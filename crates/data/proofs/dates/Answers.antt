@@ -4,7 +4,6 @@ use native.Mathlib.Omega.{arith}
 use Rattle.label.specs.Label.{label_a_octets}
 use Rattle.data.specs.Messages.{dates_reply}
 use Rattle.data.proofs.Written.{header_and_two}
-use borrow.Author.Rules.{rules}
 use Rattle.data.proofs.dates.Goals as goal
 
 pub returns : goal.returns

@@ -2,7 +2,6 @@
 -- The event is there; octet by octet. Assumes nothing.
 use Rattle.label.specs.Label.{label_a_octets, label_b_octets}
 use Rattle.data.proofs.Written.{event_not_missing, octets_of_event}
-use borrow.Author.Rules.{rules}
 use Rattle.data.proofs.event_octets.Goals as goal
 
 pub returns-in_default : goal.returns-in_default

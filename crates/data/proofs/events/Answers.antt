@@ -6,7 +6,6 @@ use Rattle.choice.specs.declared.Query.TheVariants.{Event}
 use Rattle.choice.specs.Choice.{choice}
 use Rattle.data.specs.Portions.{next_events}
 use Rattle.data.proofs.Portions.{few_events, no_events, some_events}
-use borrow.Author.Rules.{rules}
 use Rattle.data.proofs.events.Goals as goal
 
 pub returns-then-many-eq0 : goal.returns-then-many-eq0

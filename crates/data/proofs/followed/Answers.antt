@@ -3,7 +3,6 @@
 use mathlib.Core.Path.{ap, ◌∙◌}
 use Rattle.octets.specs.Keeping.{octets_of}
 use Rattle.octets.specs.Calls.{added}
-use borrow.Author.Rules.{rules}
 use Rattle.data.proofs.followed.Goals as goal
 
 pub returns : goal.returns

@@ -1,9 +1,8 @@
 -- `gathered` answers up to 27 events' octets, and how many events these are.
 -- The loop's invariant: so many of those left are gathered, and the next is found. Assumes nothing.
-use Prim.Native.Nat.{◌-◌, ◌≤◌}
 use mathlib.Core.Path.{◌≡◌, sym, ◌∙◌}
 use borrow.Author.Rules.{rules}
-use Rattle.data.proofs.Portions.{event_found_law, Gathered, none_yet, one_more, none_left, as_many_as_fit}
+use Rattle.data.proofs.Portions.{event_found_law, none_yet, one_more, none_left, as_many_as_fit}
 use Rattle.data.proofs.gathered.Goals as goal
 
 pub loop-many-init : goal.loop-many-init

@@ -2,7 +2,6 @@
 -- The header's octets are added to none. Assumes nothing.
 use Rattle.data.specs.Messages.{reply_header}
 use Rattle.data.proofs.Written.{header_only}
-use borrow.Author.Rules.{rules}
 use Rattle.data.proofs.headed.Goals as goal
 
 pub returns : goal.returns

@@ -4,7 +4,6 @@ use native.Mathlib.Omega.{arith}
 use Rattle.octets.specs.Numbers.{low_octets}
 use Rattle.data.specs.Messages.{identity_reply}
 use Rattle.data.proofs.Written.{header_and}
-use borrow.Author.Rules.{rules}
 use Rattle.data.proofs.identity.Goals as goal
 
 pub returns : goal.returns

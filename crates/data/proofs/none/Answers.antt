@@ -1,7 +1,6 @@
 -- `none` answers that nothing is given.
 -- Assumes nothing.
 use Rattle.data.proofs.Portions.{nothing_given}
-use borrow.Author.Rules.{rules}
 use Rattle.data.proofs.none.Goals as goal
 
 pub returns : goal.returns

@@ -5,7 +5,6 @@ use mir.Val.{SFits}
 use mir.Facts.{to_z-of_z}
 use Rattle.octets.specs.Numbers.{low_octets}
 use Rattle.data.proofs.Written.{value_not_missing, object_of_value}
-use borrow.Author.Rules.{rules}
 use Rattle.data.proofs.object_octets.Goals as goal
 
 pub returns-in_default : goal.returns-in_default

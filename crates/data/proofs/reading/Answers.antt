@@ -3,7 +3,6 @@
 use mathlib.Core.Path.{sym, ◌∙◌}
 use Rattle.octets.proofs.Choice.{told}
 use Rattle.data.proofs.Portions.{not_offered, no_reading, some_reading, reading_found}
-use borrow.Author.Rules.{rules}
 use Rattle.data.proofs.reading.Goals as goal
 
 pub returns-in_default : goal.returns-in_default
@@ -12,7 +11,7 @@ returns-in_default c = no_reading _ _ _ _ _ (told c.are_offered.ensures c.if-are
 pub reading_at-requires : goal.reading_at-requires
 reading_at-requires c = record {
   at_value = reading_found _ _ _ _ (sym c.find.ensures ∙ c.in-At.is);
-  objects_value = told c.are_offered.ensures c.if-are_offered.true
+  objects_value = told c.are_offered.ensures c.if-are_offered.true;
 }
 
 pub returns-then-are_offered : goal.returns-then-are_offered

@@ -1,16 +1,11 @@
 -- `reading_at` answers the message of the reading at a place, with the objects that are asked for.
 -- The loop's invariant: those before the next one stand behind the header. Assumes nothing.
-use Prim.Native.Nat.{ℕ, ◌+◌, ◌-◌, ◌≤◌}
-use mathlib.Core.List.{List, ◌++◌}
+use Prim.Native.Nat.{◌+◌}
 use mathlib.Core.Path.{◌≡◌}
 use borrow.Author.Rules.{rules}
-use lib.ListN.{length}
-use Rattle.records.specs.Records.{record_at}
-use Rattle.octets.specs.Keeping.{kept_of}
-use Rattle.message.specs.Calls.{Offered}
 use Rattle.message.specs.Requests.{objects_many}
 use Rattle.message.proofs.Requests.{offered_so}
-use Rattle.data.specs.Messages.{reply_header, objects_octets, reading_reply}
+use Rattle.data.specs.Messages.{reply_header, reading_reply}
 use Rattle.data.proofs.Messages.{header_length}
 use Rattle.data.proofs.Written.{no_object_yet, with_object, with_label, label_of_key}
 use Rattle.data.proofs.reading_at.Goals as goal

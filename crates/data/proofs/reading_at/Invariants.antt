@@ -3,16 +3,11 @@
 use Prim.Native.Nat.{ℕ, ◌+◌, ◌-◌, ◌≤◌}
 use mathlib.Core.List.{List, ◌++◌}
 use mathlib.Core.Path.{◌≡◌}
-use borrow.Author.Rules.{rules}
 use lib.ListN.{length}
 use Rattle.records.specs.Records.{record_at}
 use Rattle.octets.specs.Keeping.{kept_of}
 use Rattle.message.specs.Calls.{Offered}
-use Rattle.message.specs.Requests.{objects_many}
-use Rattle.message.proofs.Requests.{offered_so}
-use Rattle.data.specs.Messages.{reply_header, objects_octets, reading_reply}
-use Rattle.data.proofs.Messages.{header_length}
-use Rattle.data.proofs.Written.{no_object_yet, with_object, with_label, label_of_key}
+use Rattle.data.specs.Messages.{objects_octets}
 use Rattle.data.proofs.reading_at.Given as goal
 
 abbrev pub invariant-loop-object : goal.invariant-loop-object

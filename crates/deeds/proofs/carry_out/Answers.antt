@@ -2,7 +2,6 @@
 -- The request is read, the first rule that applies decides, and its row says what is done. Assumes nothing.
 use Rattle.octets.specs.Keeping.{octets_of}
 use Rattle.deeds.specs.Deeds.{carried_out}
-use borrow.Author.Rules.{rules}
 use Rattle.deeds.proofs.carry_out.Goals as goal
 
 pub returns : goal.returns

@@ -1,7 +1,6 @@
 -- `dates_octets` answers the octets of two labels a.
 -- Octet by octet. Assumes nothing.
 use Rattle.label.specs.Label.{label_a_octets}
-use borrow.Author.Rules.{rules}
 use Rattle.deeds.proofs.dates_octets.Goals as goal
 
 pub returns : goal.returns

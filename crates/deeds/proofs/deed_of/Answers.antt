@@ -1,6 +1,5 @@
 -- `deed_of` answers what a message does by its rule and its row.
 -- By the row that is found. Assumes nothing.
-use borrow.Author.Rules.{rules}
 use Rattle.deeds.proofs.deed_of.Goals as goal
 
 pub returns-in-Is : goal.returns-in-Is

@@ -1,6 +1,5 @@
 -- `done_by` answers what is done by a deed.
 -- By the deed. Assumes nothing.
-use borrow.Author.Rules.{rules}
 use Rattle.deeds.proofs.done_by.Goals as goal
 
 pub returns-in-Refused : goal.returns-in-Refused

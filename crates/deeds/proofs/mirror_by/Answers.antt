@@ -1,7 +1,6 @@
 -- `mirror_by` answers the mirror of a rule's cause and P/N.
 -- By the P/N. Assumes nothing.
 use Rattle.octets.proofs.Choice.{told}
-use borrow.Author.Rules.{rules}
 use Rattle.deeds.proofs.mirror_by.Goals as goal
 
 pub returns-then-pn : goal.returns-then-pn

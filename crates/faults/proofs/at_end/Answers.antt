@@ -2,7 +2,6 @@
 -- By what is left there, and by how many records and points are passed. Assumes nothing.
 use mathlib.Core.Path.{◌∙◌}
 use Rattle.faults.proofs.Walking.{end_left, end_empty, end_pointless, end_none}
-use borrow.Author.Rules.{rules}
 use Rattle.faults.proofs.at_end.Goals as goal
 
 pub returns-then-at-image : goal.returns-then-at-image

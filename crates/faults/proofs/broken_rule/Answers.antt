@@ -3,7 +3,6 @@
 use mathlib.Core.Path.{sym, ◌∙◌}
 use native.Mathlib.Omega.{arith}
 use Rattle.faults.proofs.Walking.{cut_short, no_kind, other_length, cut_behind}
-use borrow.Author.Rules.{rules}
 use Rattle.faults.proofs.broken_rule.Goals as goal
 
 pub returns-then-image-lt3 : goal.returns-then-image-lt3

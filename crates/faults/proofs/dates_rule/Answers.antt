@@ -2,7 +2,6 @@
 -- By what was found, and each of the two labels. Assumes nothing.
 use mathlib.Core.Path.{◌∙◌}
 use Rattle.faults.specs.working.Walking.{dates_rule}
-use borrow.Author.Rules.{rules}
 use Rattle.faults.proofs.dates_rule.Goals as goal
 
 pub returns-in-Is : goal.returns-in-Is

@@ -2,7 +2,6 @@
 -- The first has none before it; else by the keys of the two. Assumes nothing.
 use mathlib.Core.Path.{sym, ◌∙◌}
 use Rattle.faults.proofs.Walking.{first_follows, follow_keys}
-use borrow.Author.Rules.{rules}
 use Rattle.faults.proofs.does_follow.Goals as goal
 
 pub returns-then-walk-eq0 : goal.returns-then-walk-eq0

@@ -6,10 +6,7 @@ use Rattle.octets.proofs.Choice.{told}
 use Rattle.records.proofs.Records.{after_later, after_within}
 use Rattle.faults.specs.declared.Walk.{Walk}
 use Rattle.faults.proofs.Walking.{begins, stands_further, found_there, end_there}
-use Prim.Native.Nat.{◌-◌}
-use lib.ListN.{length}
-use borrow.Author.Rules.{rules}
-use Rattle.faults.specs.working.Walking.{further, Standing}
+use Rattle.faults.specs.working.Walking.{further}
 use Rattle.faults.proofs.first_fault.Goals as goal
 
 pub loop-rule-init : goal.loop-rule-init

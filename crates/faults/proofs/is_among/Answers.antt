@@ -2,7 +2,6 @@
 -- By what was found. Assumes nothing.
 use mathlib.Core.Path.{ap, sym, ◌∙◌}
 use Rattle.image.specs.working.Keys.{is_found}
-use borrow.Author.Rules.{rules}
 use Rattle.faults.proofs.is_among.Goals as goal
 
 pub returns-in-Is : goal.returns-in-Is

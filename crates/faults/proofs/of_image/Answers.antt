@@ -4,7 +4,6 @@ use mathlib.Core.Path.{sym, ◌∙◌}
 use borrow.Author.Tests.{lt-ltb, le-ltb, eq-eqb, ne_eqb}
 use lib.ListN.{length}
 use Rattle.faults.specs.Images.{image_fault}
-use borrow.Author.Rules.{rules}
 use Rattle.faults.proofs.of_image.Goals as goal
 
 pub returns-then-image-gt65535 : goal.returns-then-image-gt65535

@@ -2,7 +2,6 @@
 -- Its flags and reserved bits one by one, then its date and time. Assumes nothing.
 use Rattle.octets.proofs.Choice.{tests}
 use Rattle.faults.specs.Labels.{label_fault_a}
-use borrow.Author.Rules.{rules}
 use Rattle.faults.proofs.of_label_a.Goals as goal
 
 pub returns-then-label-ne0 : goal.returns-then-label-ne0

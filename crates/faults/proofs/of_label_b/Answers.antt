@@ -2,7 +2,6 @@
 -- Second and millisecond, then its label a. Assumes nothing.
 use Rattle.octets.proofs.Choice.{tests}
 use Rattle.faults.specs.Labels.{label_fault_b}
-use borrow.Author.Rules.{rules}
 use Rattle.faults.proofs.of_label_b.Goals as goal
 
 pub returns-then-second-gt59 : goal.returns-then-second-gt59

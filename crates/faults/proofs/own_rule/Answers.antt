@@ -4,7 +4,6 @@ use mathlib.Core.Path.{ap, sym, ◌∙◌}
 use Rattle.image.proofs.Keys.{same_kind}
 use Rattle.faults.specs.working.Walking.{dates_rule}
 use Rattle.faults.proofs.Parts.{own_zero, own_point, own_dates, own_reading, own_event, own_other}
-use borrow.Author.Rules.{rules}
 use Rattle.faults.proofs.own_rule.Goals as goal
 
 pub returns-then-key-eq0 : goal.returns-then-key-eq0

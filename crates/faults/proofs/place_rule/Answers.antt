@@ -4,7 +4,6 @@ use mathlib.Core.Path.{ap, ◌∙◌}
 use Rattle.octets.proofs.Choice.{told}
 use Rattle.faults.specs.working.Walking.{point_rule}
 use Rattle.faults.proofs.Walking.{point_there, place_order, place_points}
-use borrow.Author.Rules.{rules}
 use Rattle.faults.proofs.place_rule.Goals as goal
 
 pub returns-then-does_follow : goal.returns-then-does_follow

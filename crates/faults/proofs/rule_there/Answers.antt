@@ -4,7 +4,6 @@ use mathlib.Core.Path.{sym, ◌∙◌}
 use Rattle.octets.proofs.Choice.{told}
 use Rattle.fields.proofs.Parts.{key_whole}
 use Rattle.faults.proofs.Walking.{rule_head, rule_place, rule_own}
-use borrow.Author.Rules.{rules}
 use Rattle.faults.proofs.rule_there.Goals as goal
 
 pub returns-then-lacks_head : goal.returns-then-lacks_head

@@ -3,7 +3,6 @@
 use mathlib.Core.Path.{sym, ◌∙◌}
 use borrow.Author.Tests.{eq-eqb, ne_eqb}
 use Rattle.faults.specs.working.Walking.{further}
-use borrow.Author.Rules.{rules}
 use Rattle.faults.proofs.step.Goals as goal
 
 pub returns-then-kind_at-eq2 : goal.returns-then-kind_at-eq2

@@ -5,7 +5,6 @@ use native.Mathlib.Omega.{arith}
 use Rattle.records.specs.Records.{length_of}
 use Rattle.fields.proofs.Parts.{room_of}
 use Rattle.fields.proofs.Answers.{dates-are, no-dates}
-use borrow.Author.Rules.{rules}
 use Rattle.fields.proofs.dates_at.Goals as goal
 
 pub overflow_add-r : goal.overflow_add-r

@@ -3,7 +3,6 @@
 use mathlib.Core.Path.{◌∙◌}
 use native.Mathlib.Omega.{arith}
 use Rattle.fields.proofs.Answers.{points-room, dates-place, dates-behind}
-use borrow.Author.Rules.{rules}
 use Rattle.fields.proofs.dates_of.Goals as goal
 
 pub overflow_mul-points : goal.overflow_mul-points

@@ -6,7 +6,6 @@ use Rattle.records.specs.Records.{length_of}
 use Rattle.fields.specs.Parts.{spa_of, spq_of}
 use Rattle.fields.proofs.Parts.{room_of}
 use Rattle.fields.proofs.Answers.{event-is, no-event}
-use borrow.Author.Rules.{rules}
 use Rattle.fields.proofs.event_at.Goals as goal
 
 pub overflow_add-r : goal.overflow_add-r

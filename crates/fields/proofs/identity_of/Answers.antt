@@ -6,7 +6,6 @@ use Rattle.records.specs.Records.{length_of}
 use Rattle.fields.specs.Parts.{link_of, date_of, maker_of, product_of}
 use Rattle.fields.proofs.Parts.{room_of}
 use Rattle.fields.proofs.Answers.{head-is, no-head}
-use borrow.Author.Rules.{rules}
 use Rattle.fields.proofs.identity_of.Goals as goal
 
 pub slice_bounds-r-end : goal.slice_bounds-r-end

@@ -7,7 +7,6 @@ use Rattle.records.specs.Records.{length_of}
 use Rattle.fields.specs.Parts.{point_of}
 use Rattle.fields.specs.working.Key.{no_label, key}
 use Rattle.fields.proofs.Parts.{room_of, key_point, key_as_law, key_other}
-use borrow.Author.Rules.{rules}
 use Rattle.fields.proofs.key_at.Goals as goal
 
 pub overflow_add-r : goal.overflow_add-r

@@ -1,7 +1,6 @@
 -- `labelled` answers the key of a reading or an event.
 -- By the point's two octets. Assumes nothing.
 use Rattle.fields.specs.Parts.{point_of, record_address}
-use borrow.Author.Rules.{rules}
 use Rattle.fields.proofs.labelled.Goals as goal
 
 pub returns : goal.returns

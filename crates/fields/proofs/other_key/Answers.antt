@@ -1,6 +1,5 @@
 -- `fields::other_key` answers a key that has its kind alone.
 -- By the label of octets 0. Assumes nothing.
-use borrow.Author.Rules.{rules}
 use Rattle.fields.proofs.other_key.Goals as goal
 
 pub returns : goal.returns

@@ -1,13 +1,10 @@
 -- `fields::point_of` answers the first point with an address, its number and its password.
 -- The loop's invariant: looked for from here on, the answer is that from the start. Assumes nothing.
-use Prim.Native.Nat.{◌+◌, ◌-◌, ◌≤◌}
-use mathlib.Core.Path.{◌≡◌, sym, ◌∙◌}
+use mathlib.Core.Path.{sym, ◌∙◌}
 use native.Mathlib.Omega.{arith}
-use borrow.Author.Rules.{rules}
-use lib.ListN.{length}
 use Rattle.records.specs.Records.{length_of}
 use Rattle.fields.specs.Parts.{point_of, password_of}
-use Rattle.fields.specs.Answers.{points_from, points_of, point_in, point_found}
+use Rattle.fields.specs.Answers.{points_of, point_found}
 use Rattle.fields.proofs.Parts.{room_of}
 use Rattle.fields.proofs.Answers.{point-end, point-hit, point-pass}
 use Rattle.fields.proofs.point_of.Goals as goal

@@ -1,12 +1,10 @@
 -- `fields::points` answers how many points stand behind the first record.
 -- The loop's invariant: those passed and those from here on are all of them. Assumes nothing.
-use Prim.Native.Nat.{◌+◌, ◌-◌, ◌≤◌}
-use mathlib.Core.Path.{◌≡◌, ap, sym, ◌∙◌}
-use borrow.Author.Rules.{rules}
+use mathlib.Core.Path.{ap, sym, ◌∙◌}
 use native.Mathlib.Omega.{arith}
 use lib.ListN.{length}
 use Rattle.records.specs.Records.{length_of}
-use Rattle.fields.specs.Answers.{points_from, points_of}
+use Rattle.fields.specs.Answers.{points_of}
 use Rattle.fields.proofs.Parts.{room_of}
 use Rattle.fields.proofs.Answers.{points-more, points-end}
 use Rattle.fields.proofs.points.Goals as goal

@@ -4,7 +4,6 @@ use mathlib.Core.Path.{sym, ◌∙◌}
 use native.Mathlib.Omega.{arith}
 use Rattle.records.specs.Records.{length_of}
 use Rattle.fields.proofs.Parts.{room_of, key_reading, key_not_as}
-use borrow.Author.Rules.{rules}
 use Rattle.fields.proofs.reading_key.Goals as goal
 
 pub overflow_add-r : goal.overflow_add-r

@@ -8,7 +8,6 @@ use Rattle.records.specs.Records.{length_of}
 use Rattle.fields.specs.Parts.{value_of, quality_of}
 use Rattle.fields.proofs.Parts.{room_of}
 use Rattle.fields.proofs.Answers.{value-is, no_reading, no-object}
-use borrow.Author.Rules.{rules}
 use Rattle.fields.proofs.value_at.Goals as goal
 
 pub returns-then-kind_at-ne4 : goal.returns-then-kind_at-ne4

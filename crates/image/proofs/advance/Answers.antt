@@ -2,7 +2,6 @@
 -- By whether it fits. Assumes nothing.
 use mathlib.Core.Path.{◌∙◌}
 use mir.Facts.{to_z-of_z}
-use borrow.Author.Rules.{rules}
 use Rattle.image.proofs.advance.Goals as goal
 
 pub returns-then-fits : goal.returns-then-fits

@@ -2,7 +2,6 @@
 -- By the answer's cases. Assumes nothing.
 use Rattle.octets.proofs.Choice.{told}
 use Rattle.image.specs.working.Keys.{valid_dates}
-use borrow.Author.Rules.{rules}
 use Rattle.image.proofs.are_valid.Goals as goal
 
 pub returns-then-is_valid : goal.returns-then-is_valid

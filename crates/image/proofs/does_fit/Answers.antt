@@ -3,7 +3,6 @@
 use mathlib.Core.Path.{◌∙◌}
 use Rattle.octets.proofs.Choice.{told}
 use Rattle.image.proofs.Runs.{fits_known, fits_unordered, fits_wrong}
-use borrow.Author.Rules.{rules}
 use Rattle.image.proofs.does_fit.Goals as goal
 
 pub returns-then-in_order : goal.returns-then-in_order

@@ -6,7 +6,6 @@ use Rattle.label.proofs.Label.{moment_facts, back}
 use Rattle.image.specs.Image.{event_record}
 use Rattle.image.specs.working.Keys.{by_key}
 use Rattle.image.proofs.Runs.{event_right, wrong_label, wrong_address, right_then, event_order}
-use borrow.Author.Rules.{rules}
 use Rattle.image.proofs.event_fits.Goals as goal
 
 pub is_late-requires : goal.is_late-requires

@@ -2,7 +2,6 @@
 -- Part by part; the last one's point is known. Assumes nothing.
 use mathlib.Core.Path.{◌∙◌}
 use Rattle.image.proofs.Runs.{by_point_law, not_by_point, by_address, by_labels}
-use borrow.Author.Rules.{rules}
 use Rattle.image.proofs.goes_on.Goals as goal
 
 pub returns-then-last-key-2 : goal.returns-then-last-key-2

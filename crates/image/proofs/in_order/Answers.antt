@@ -3,7 +3,6 @@
 use borrow.Author.Tests.{eq-eqb, ne_eqb}
 use Rattle.octets.proofs.Choice.{told}
 use Rattle.image.specs.working.Keys.{keys_in_order}
-use borrow.Author.Rules.{rules}
 use Rattle.image.proofs.in_order.Goals as goal
 
 pub returns-then-kind-next : goal.returns-then-kind-next

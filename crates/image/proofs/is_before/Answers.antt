@@ -2,7 +2,6 @@
 -- By the parts of that order. Assumes nothing.
 use borrow.Author.Tests.{eq-eqb, ne_eqb}
 use Rattle.image.specs.working.Keys.{by_key, key_before}
-use borrow.Author.Rules.{rules}
 use Rattle.image.proofs.is_before.Goals as goal
 
 pub returns-then-mine-other : goal.returns-then-mine-other

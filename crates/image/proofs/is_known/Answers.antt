@@ -4,7 +4,6 @@ use mathlib.Core.Path.{ap, sym, ◌∙◌}
 use native.Mathlib.Omega.{arith}
 use Rattle.image.specs.working.Keys.{is_found}
 use Rattle.image.proofs.Known.{known_low, known_high}
-use borrow.Author.Rules.{rules}
 use Rattle.image.proofs.is_known.Goals as goal
 
 pub returns-then-key-lt4 : goal.returns-then-key-lt4

@@ -7,7 +7,6 @@ use Rattle.octets.proofs.Choice.{told}
 use Rattle.label.specs.Label.{in_minute}
 use Rattle.label.proofs.Label.{compared, b_earlier, b_later, b_same_minute}
 use Rattle.image.proofs.Runs.{at_most}
-use borrow.Author.Rules.{rules}
 use Rattle.image.proofs.is_late.Goals as goal
 
 pub returns-then-now-minute : goal.returns-then-now-minute

@@ -4,7 +4,6 @@ use mathlib.Core.Path.{ap, sym, ◌∙◌}
 use Rattle.octets.proofs.Choice.{told}
 use Rattle.image.specs.working.Keys.{valid_dates}
 use Rattle.image.proofs.Keys.{same_kind, right_2, right_3, right_4, right_5, right_other}
-use borrow.Author.Rules.{rules}
 use Rattle.image.proofs.is_right.Goals as goal
 
 pub returns-then-kind-eq2 : goal.returns-then-kind-eq2

@@ -5,7 +5,6 @@ use native.Mathlib.Omega.{arith}
 use Rattle.label.proofs.Label.{moment_facts, back}
 use Rattle.records.specs.Records.{length_of}
 use Rattle.image.proofs.Runs.{of_events, run_ends, run_room, run_behind, run_advances}
-use borrow.Author.Rules.{rules}
 use Rattle.image.proofs.next_event.Goals as goal
 
 pub event_fits-fits-requires : goal.event_fits-fits-requires

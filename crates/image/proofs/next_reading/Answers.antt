@@ -5,7 +5,6 @@ use native.Mathlib.Omega.{arith}
 use Rattle.label.proofs.Label.{moment_facts, back}
 use Rattle.records.specs.Records.{length_of}
 use Rattle.image.proofs.Runs.{of_readings, run_ends, run_room, run_behind, run_advances}
-use borrow.Author.Rules.{rules}
 use Rattle.image.proofs.next_reading.Goals as goal
 
 pub reading_fits-fits-requires : goal.reading_fits-fits-requires

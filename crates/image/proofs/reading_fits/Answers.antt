@@ -6,7 +6,6 @@ use Rattle.label.proofs.Label.{moment_facts, compared}
 use Rattle.image.specs.Image.{reading_record}
 use Rattle.image.specs.working.Keys.{by_key}
 use Rattle.image.proofs.Runs.{reading_right, wrong_label, wrong_address, right_then, reading_order}
-use borrow.Author.Rules.{rules}
 use Rattle.image.proofs.reading_fits.Goals as goal
 
 pub returns-then-is_reading_record : goal.returns-then-is_reading_record

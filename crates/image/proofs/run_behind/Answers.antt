@@ -2,8 +2,7 @@
 -- The loops' invariant: what is left of the test from here on, behind the last key, is what was left at the start. Assumes nothing.
 use mathlib.Core.Path.{◌∙◌}
 use Rattle.label.proofs.Label.{back}
-use Rattle.image.proofs.Runs.{Stood, ahead, stood_first, stood_going, other_run, stood_next, nearer_end}
-use borrow.Author.Rules.{rules}
+use Rattle.image.proofs.Runs.{stood_first, stood_going, other_run, stood_next, nearer_end}
 use Rattle.image.proofs.run_behind.Goals as goal
 
 pub loop-run-init : goal.loop-run-init

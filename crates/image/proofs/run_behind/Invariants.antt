@@ -1,9 +1,6 @@
 -- `image::run_behind` answers how far the readings or events behind a record fit.
 -- The loops' invariant: what is left of the test from here on, behind the last key, is what was left at the start. Assumes nothing.
-use mathlib.Core.Path.{◌∙◌}
-use Rattle.label.proofs.Label.{back}
-use Rattle.image.proofs.Runs.{Stood, ahead, stood_first, stood_going, other_run, stood_next, nearer_end}
-use borrow.Author.Rules.{rules}
+use Rattle.image.proofs.Runs.{Stood, ahead}
 use Rattle.image.proofs.run_behind.Given as goal
 
 abbrev pub invariant-loop-run : goal.invariant-loop-run

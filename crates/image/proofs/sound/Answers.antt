@@ -5,7 +5,6 @@ use native.Mathlib.Omega.{arith}
 use lib.ListN.{get_or-eq_default}
 use Rattle.octets.proofs.Choice.{refuted}
 use Rattle.image.proofs.Soundness.{rules as of_sound, has_head, points_counted, walk_decides}
-use borrow.Author.Rules.{rules}
 use Rattle.image.proofs.sound.Goals as goal
 
 pub returns-then-image-gt65535 : goal.returns-then-image-gt65535

@@ -1,6 +1,6 @@
 -- `days_before` answers the days from 1 January 2000 to the first of a month.
 -- By the rule of the years before a year, and of the days of a year before a month. Assumes nothing.
-use Rattle.std.proofs.Common.{◌-◌, arith}
+use Rattle.std.proofs.Common.{arith}
 use Rattle.label.specs.Calendar.{leap}
 use Rattle.label.proofs.Calendar.{before_at_most, years_rule}
 use Rattle.label.proofs.days_before.Goals as goal

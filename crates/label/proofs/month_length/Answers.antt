@@ -2,7 +2,7 @@
 -- February's by its rule, any other's by its turn. Assumes nothing.
 use Rattle.std.proofs.Common.{arith}
 use Rattle.label.specs.Calendar.{leap}
-use Rattle.label.proofs.Calendar.{leap_at_most, february_rule, length_rule}
+use Rattle.label.proofs.Calendar.{leap_at_most, february_rule, turn_rule}
 use Rattle.label.proofs.month_length.Goals as goal
 
 pub overflow_add-result : goal.overflow_add-result
@@ -13,4 +13,4 @@ returns-then-month-eq2 c = omega (arith, february_rule (leap c.args.year) c.args
 
 pub returns : goal.returns
 returns c =
-    omega (arith, length_rule (leap c.args.year) c.args.month (omega arith) (omega arith) c.if-month-eq2.false)
+    omega (arith, turn_rule (leap c.args.year) c.args.month (omega arith) (omega arith) c.if-month-eq2.false)

@@ -1,7 +1,6 @@
 -- `cause_octet` answers an octet with the old T and a new P/N and cause.
 -- By arithmetic, for either P/N. Assumes nothing.
 use native.Mathlib.Omega.{arith}
-use borrow.Author.Rules.{rules}
 use Rattle.message.proofs.cause_octet.Goals as goal
 
 pub returns-then-pn : goal.returns-then-pn

@@ -1,7 +1,6 @@
 -- `label_at` answers the label a that stands at an index.
 -- A label that is cut out is the one that stands there. Assumes nothing.
 use Rattle.label.proofs.Label.{label_a_cut}
-use borrow.Author.Rules.{rules}
 use Rattle.message.proofs.label_at.Goals as goal
 
 pub returns : goal.returns

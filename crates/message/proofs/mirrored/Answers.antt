@@ -1,7 +1,6 @@
 -- `mirrored` answers the mirror of a request.
 -- The array is mirrored, the length stays. Assumes nothing.
 use Rattle.message.specs.Mirror.{mirror_of}
-use borrow.Author.Rules.{rules}
 use Rattle.message.proofs.mirrored.Goals as goal
 
 pub returns : goal.returns

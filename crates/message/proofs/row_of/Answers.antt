@@ -1,13 +1,12 @@
 -- `row_of` answers the row of a type.
 -- The loop's invariant: the rows that are left decide. Assumes nothing.
-use Prim.Native.Nat.{◌≤◌, ◌<◌, ◌-◌}
-use mathlib.Core.Path.{◌≡◌, refl, sym, ◌∙◌}
+use Prim.Native.Nat.{◌≤◌, ◌<◌}
+use mathlib.Core.Path.{refl, sym, ◌∙◌}
 use borrow.Author.Rules.{rules}
-use lib.ListN.{drop}
 use Rattle.message.specs.declared.Addresses.TheVariants.{Only}
 use Rattle.message.specs.declared.Deed.TheVariants.{Refused}
 use Rattle.message.specs.declared.Row.{Row}
-use Rattle.message.specs.Table.{row, table, row_in}
+use Rattle.message.specs.Table.{row, table}
 use Rattle.message.proofs.Table.{row_here, row_further, row_none}
 use Rattle.message.proofs.row_of.Goals as goal
 

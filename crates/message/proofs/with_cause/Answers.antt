@@ -1,7 +1,6 @@
 -- `with_cause` answers the mirror of a request.
 -- One octet is stored. Assumes nothing.
 use Rattle.message.specs.Mirror.{mirror}
-use borrow.Author.Rules.{rules}
 use Rattle.message.proofs.with_cause.Goals as goal
 
 pub returns : goal.returns

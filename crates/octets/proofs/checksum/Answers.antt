@@ -1,6 +1,6 @@
 -- `octets::checksum` answers the sum of its octets modulo 256.
 -- The loop's invariant: the sum so far is that of the octets passed. Assumes nothing.
-use Rattle.std.proofs.Common.{◌≡◌, ◌-◌, ◌≤◌, length, take, ◌∙◌, arith, take_all, rules}
+use Rattle.std.proofs.Common.{◌≤◌, length, ◌∙◌, arith, take_all, rules}
 use Rattle.octets.specs.Sum.{octet_sum, checksum}
 use Rattle.octets.proofs.Sum.{checksum_more}
 use Rattle.octets.proofs.checksum.Goals as goal

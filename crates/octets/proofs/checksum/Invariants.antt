@@ -1,8 +1,7 @@
 -- `octets::checksum` answers the sum of its octets modulo 256.
 -- The loop's invariant: the sum so far is that of the octets passed. Assumes nothing.
-use Rattle.std.proofs.Common.{◌≡◌, ◌-◌, ◌≤◌, length, take, ◌∙◌, arith, take_all, rules}
-use Rattle.octets.specs.Sum.{octet_sum, checksum}
-use Rattle.octets.proofs.Sum.{checksum_more}
+use Rattle.std.proofs.Common.{◌≡◌, ◌-◌, ◌≤◌, length, take}
+use Rattle.octets.specs.Sum.{checksum}
 use Rattle.octets.proofs.checksum.Given as goal
 
 abbrev pub invariant-loop-i : goal.invariant-loop-i

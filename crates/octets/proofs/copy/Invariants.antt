@@ -1,8 +1,7 @@
 -- `octets::copy` leaves the buffer with `top` written over it.
 -- The loop's invariant: the first i octets of `top` are written. Assumes nothing.
-use Rattle.std.proofs.Common.{◌≡◌, ◌-◌, ◌≤◌, length, take, length-set, take_all, rules}
+use Rattle.std.proofs.Common.{◌≡◌, ◌-◌, ◌≤◌, length, take}
 use Rattle.octets.specs.Over.{over}
-use Rattle.octets.proofs.Over.{over_none, over_more}
 use Rattle.octets.proofs.copy.Given as goal
 
 abbrev pub invariant-loop-i : goal.invariant-loop-i

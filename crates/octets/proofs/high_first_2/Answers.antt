@@ -1,7 +1,6 @@
 -- `octets::high_first_2` answers the number of its two octets, high octet first.
 -- It is the number of the octets reversed. Assumes nothing.
 use Rattle.octets.specs.Numbers.{high_first}
-use Rattle.std.proofs.Common.{rules}
 use Rattle.octets.proofs.high_first_2.Goals as goal
 
 pub returns : goal.returns

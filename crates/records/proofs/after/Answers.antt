@@ -4,7 +4,6 @@ use mathlib.Core.Path.{sym}
 use native.Mathlib.Omega.{arith}
 use Rattle.octets.proofs.Choice.{told}
 use Rattle.records.proofs.Records.{stands_facts, after_whole, after_none}
-use borrow.Author.Rules.{rules}
 use Rattle.records.proofs.after.Goals as goal
 
 pub overflow_add-result : goal.overflow_add-result

@@ -3,7 +3,6 @@
 use native.Mathlib.Omega.{arith}
 use Rattle.octets.proofs.Choice.{refuted}
 use Rattle.records.proofs.Records.{stands_facts, stands_but_room}
-use borrow.Author.Rules.{rules}
 use Rattle.records.proofs.is_whole.Goals as goal
 
 pub returns-then-s-lt3 : goal.returns-then-s-lt3

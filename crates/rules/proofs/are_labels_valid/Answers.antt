@@ -2,7 +2,6 @@
 -- First, then last. Assumes nothing.
 use Rattle.octets.proofs.Choice.{told}
 use Rattle.rules.specs.Decide.{labels_valid}
-use borrow.Author.Rules.{rules}
 use Rattle.rules.proofs.are_labels_valid.Goals as goal
 
 pub returns-then-is_valid : goal.returns-then-is_valid

@@ -1,7 +1,6 @@
 -- `by_row` answers the first rule that applies, from the shape on.
 -- One test after the other. Assumes nothing.
 use Rattle.octets.proofs.Choice.{told}
-use borrow.Author.Rules.{rules}
 use Rattle.rules.proofs.by_row.Goals as goal
 
 pub returns-then-is_addressed : goal.returns-then-is_addressed

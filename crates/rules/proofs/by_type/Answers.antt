@@ -3,7 +3,6 @@
 use borrow.Author.Tests.{ne_eqb}
 use Rattle.message.specs.Requests.{asks_readings}
 use Rattle.rules.specs.Decide.{labels_valid, first_after_last, span_of, by_type}
-use borrow.Author.Rules.{rules}
 use Rattle.rules.proofs.by_type.Goals as goal
 
 pub returns-in-122 : goal.returns-in-122

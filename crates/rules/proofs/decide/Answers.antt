@@ -3,7 +3,6 @@
 use mathlib.Core.Path.{sym, ◌∙◌}
 use Rattle.octets.proofs.Choice.{told}
 use Rattle.rules.specs.Decide.{decide}
-use borrow.Author.Rules.{rules}
 use Rattle.rules.proofs.decide.Goals as goal
 
 pub returns-then-is_marked : goal.returns-then-is_marked

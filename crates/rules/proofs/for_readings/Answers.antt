@@ -1,7 +1,6 @@
 -- `for_readings` answers the rule about a request for readings.
 -- The objects, then the labels. Assumes nothing.
 use Rattle.octets.proofs.Choice.{told}
-use borrow.Author.Rules.{rules}
 use Rattle.rules.proofs.for_readings.Goals as goal
 
 pub returns-then-are_offered : goal.returns-then-are_offered

@@ -1,7 +1,6 @@
 -- `for_switch` answers the rule about a request to set the switch dates.
 -- The image has them, then the labels. Assumes nothing.
 use Rattle.octets.proofs.Choice.{told}
-use borrow.Author.Rules.{rules}
 use Rattle.rules.proofs.for_switch.Goals as goal
 
 pub returns-then-is_dated : goal.returns-then-is_dated

@@ -1,6 +1,5 @@
 -- `is_addressed` answers whether a record address is one of those listed.
 -- By what is listed. Assumes nothing.
-use borrow.Author.Rules.{rules}
 use Rattle.rules.proofs.is_addressed.Goals as goal
 
 pub returns-in-Only : goal.returns-in-Only

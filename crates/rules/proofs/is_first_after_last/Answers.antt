@@ -1,7 +1,6 @@
 -- `is_first_after_last` answers whether the first label lies after the last.
 -- The last is before it. Assumes nothing.
 use Rattle.rules.specs.Decide.{first_after_last}
-use borrow.Author.Rules.{rules}
 use Rattle.rules.proofs.is_first_after_last.Goals as goal
 
 pub returns : goal.returns

@@ -2,7 +2,6 @@
 -- By the first place that is found, or none. Assumes nothing.
 use mathlib.Core.Path.{sym, ◌∙◌}
 use Rattle.rules.proofs.Searching.{some_chosen, none_chosen}
-use borrow.Author.Rules.{rules}
 use Rattle.rules.proofs.is_none.Goals as goal
 
 pub returns-in-At : goal.returns-in-At

@@ -1,6 +1,5 @@
 -- `is_other` answers whether a type needs the session of its own point and there is another's.
 -- By the session. Assumes nothing.
-use borrow.Author.Rules.{rules}
 use Rattle.rules.proofs.is_other.Goals as goal
 
 pub returns-in-Open : goal.returns-in-Open

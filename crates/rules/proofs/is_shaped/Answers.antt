@@ -7,7 +7,6 @@ use lib.Dec.{eqb}
 use Rattle.message.specs.Headers.{cause_of}
 use borrow.Author.Tests.{eq-eqb}
 use Rattle.octets.proofs.Choice.{tests}
-use borrow.Author.Rules.{rules}
 use Rattle.rules.proofs.is_shaped.Goals as goal
 
 six : (n : ℕ) → n % 64 ≡ cause_of n

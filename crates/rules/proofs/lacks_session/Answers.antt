@@ -1,6 +1,5 @@
 -- `lacks_session` answers whether a type needs a session and there is none.
 -- By the session. Assumes nothing.
-use borrow.Author.Rules.{rules}
 use Rattle.rules.proofs.lacks_session.Goals as goal
 
 pub returns-in-Closed : goal.returns-in-Closed

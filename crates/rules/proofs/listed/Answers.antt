@@ -2,7 +2,6 @@
 -- One test after the other. Assumes nothing.
 use Rattle.octets.proofs.Choice.{told}
 use Rattle.rules.specs.Decide.{decide}
-use borrow.Author.Rules.{rules}
 use Rattle.rules.proofs.listed.Goals as goal
 
 pub returns-then-lacks_session : goal.returns-then-lacks_session

@@ -1,7 +1,6 @@
 -- `ranged` answers the rule about two labels and what they choose.
 -- One test after the other. Assumes nothing.
 use Rattle.octets.proofs.Choice.{told}
-use borrow.Author.Rules.{rules}
 use Rattle.rules.proofs.ranged.Goals as goal
 
 pub returns-then-is_first_after_last : goal.returns-then-is_first_after_last

@@ -2,7 +2,6 @@
 -- Part by part. Assumes nothing.
 use Rattle.label.proofs.Label.{back}
 use Rattle.rules.specs.Decide.{span_of}
-use borrow.Author.Rules.{rules}
 use Rattle.rules.proofs.span_of.Goals as goal
 
 pub returns : goal.returns

@@ -10,7 +10,6 @@ use Rattle.deeds.specs.contracts.Waiting.{the_type}
 use Rattle.deeds.specs.declared.Waiting.{Waiting}
 use Rattle.deeds.specs.declared.Waiting.TheVariants.{NoReply, Mirror, Denied, Begin, More, Type71, Type72, Type131}
 use Rattle.deeds.specs.Deeds.{is_waiting}
-use borrow.Author.Rules.{rules}
 use borrow.Enum.Refused.{opened}
 use Rattle.deeds.proofs.Pending.is_waiting.Goals as goal
 

@@ -1,7 +1,6 @@
 -- `Pending::new` answers that nothing waits.
 -- By its parts. Assumes nothing.
 use Rattle.deeds.specs.Deeds.{nothing_pending}
-use borrow.Author.Rules.{rules}
 use Rattle.deeds.proofs.Pending.new.Goals as goal
 
 pub returns : goal.returns

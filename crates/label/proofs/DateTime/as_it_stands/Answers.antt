@@ -1,7 +1,6 @@
 -- `DateTime::as_it_stands` answers the date and time with its whole year.
 -- Part by part. Assumes nothing.
 use mathlib.Core.Path.{refl}
-use borrow.Author.Rules.{rules}
 use Rattle.label.specs.Standard.{as_it_stands}
 use Rattle.label.proofs.DateTime.as_it_stands.Goals as goal
 

@@ -1,7 +1,6 @@
 -- `DateTime::hour_earlier` answers the date and time one hour earlier.
 -- By the part that the hour is taken from. Assumes nothing.
 use native.Mathlib.Omega.{arith}
-use borrow.Author.Rules.{rules}
 use Rattle.octets.proofs.Choice.{tests}
 use Rattle.label.specs.Standard.{hour_earlier}
 use Rattle.label.proofs.Time.{real_facts}

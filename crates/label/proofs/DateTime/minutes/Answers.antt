@@ -4,7 +4,6 @@ use native.Mathlib.Omega.{arith}
 use Rattle.label.specs.Calendar.{day_number}
 use Rattle.label.specs.Time.{minutes}
 use Rattle.label.proofs.Time.{room}
-use borrow.Author.Rules.{rules}
 use Rattle.label.proofs.DateTime.minutes.Goals as goal
 
 pub days_before-requires : goal.days_before-requires

@@ -3,7 +3,6 @@
 use mathlib.Core.Path.{sym, ◌∙◌}
 use Rattle.octets.proofs.Choice.{told}
 use Rattle.label.proofs.Label.{back, instant_not}
-use borrow.Author.Rules.{rules}
 use Rattle.label.proofs.LabelA.instant.Goals as goal
 
 pub standard_minute-requires : goal.standard_minute-requires

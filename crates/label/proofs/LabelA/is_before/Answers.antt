@@ -1,6 +1,5 @@
 -- `LabelA::is_before` answers the order of the two instants.
 -- By what the machine compares. Assumes nothing.
-use borrow.Author.Rules.{rules}
 use Rattle.label.proofs.Label.{compared}
 use Rattle.label.proofs.LabelA.is_before.Goals as goal
 

@@ -3,7 +3,6 @@
 use mathlib.Core.Path.{sym, ◌∙◌}
 use Rattle.octets.proofs.Choice.{told}
 use Rattle.label.proofs.Label.{back, instant_not, moment_is}
-use borrow.Author.Rules.{rules}
 use Rattle.label.proofs.LabelA.moment.Goals as goal
 
 pub standard_minute-minute-requires : goal.standard_minute-minute-requires

@@ -1,7 +1,6 @@
 -- `LabelA::read` answers the label in the first five octets.
 -- Octet by octet. Assumes nothing.
 use Rattle.label.specs.Label.{label_a_at}
-use borrow.Author.Rules.{rules}
 use Rattle.label.proofs.LabelA.read.Goals as goal
 
 pub returns : goal.returns

@@ -1,7 +1,6 @@
 -- `LabelA::standard_time` answers what a label says in standard time.
 -- By the cases of validity and SU. Assumes nothing.
 use mathlib.Core.Path.{ap, ◌∙◌}
-use borrow.Author.Rules.{rules}
 use Rattle.octets.proofs.Choice.{told}
 use Rattle.label.specs.Time.{real}
 use Rattle.label.proofs.Label.{valid_a_law, from_summer, from_standard, from_not_valid}

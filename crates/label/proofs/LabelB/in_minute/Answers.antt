@@ -3,7 +3,6 @@
 use native.Mathlib.Omega.{arith}
 use Rattle.label.specs.Label.{in_minute}
 use Rattle.label.proofs.Label.{second_small, millisecond_small}
-use borrow.Author.Rules.{rules}
 use Rattle.label.proofs.LabelB.in_minute.Goals as goal
 
 pub overflow_mul-result : goal.overflow_mul-result

@@ -4,7 +4,6 @@ use mathlib.Core.Path.{ap₂, ◌∙◌}
 use lib.Dec.{ltb}
 use Rattle.octets.proofs.Choice.{told}
 use Rattle.label.proofs.Label.{compared, b_earlier, b_later, b_same_minute}
-use borrow.Author.Rules.{rules}
 use Rattle.label.proofs.LabelB.is_before.Goals as goal
 
 pub returns-then-mine-theirs : goal.returns-then-mine-theirs

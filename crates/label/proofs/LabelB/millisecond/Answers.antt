@@ -2,7 +2,6 @@
 -- By arithmetic. Assumes nothing.
 use native.Mathlib.Omega.{arith}
 use Rattle.label.specs.Label.{millisecond}
-use borrow.Author.Rules.{rules}
 use Rattle.label.proofs.LabelB.millisecond.Goals as goal
 
 pub returns : goal.returns

@@ -2,7 +2,6 @@
 -- By the label a that is cut out of them. Assumes nothing.
 use Rattle.label.specs.Label.{label_b_at}
 use Rattle.label.proofs.Label.{label_a_cut}
-use borrow.Author.Rules.{rules}
 use Rattle.label.proofs.LabelB.read.Goals as goal
 
 pub returns : goal.returns

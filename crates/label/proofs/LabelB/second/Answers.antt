@@ -2,7 +2,6 @@
 -- By arithmetic. Assumes nothing.
 use native.Mathlib.Omega.{arith}
 use Rattle.label.specs.Label.{second}
-use borrow.Author.Rules.{rules}
 use Rattle.label.proofs.LabelB.second.Goals as goal
 
 pub returns : goal.returns

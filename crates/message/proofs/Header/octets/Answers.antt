@@ -2,7 +2,6 @@
 -- Octet by octet. Assumes nothing.
 use Rattle.octets.specs.Numbers.{low_octets}
 use Rattle.message.specs.Headers.{header_octets}
-use borrow.Author.Rules.{rules}
 use Rattle.message.proofs.Header.octets.Goals as goal
 
 pub returns : goal.returns

@@ -1,7 +1,6 @@
 -- `Header::read` answers the header of a message.
 -- Octet by octet. Assumes nothing.
 use Rattle.message.specs.Headers.{header_of}
-use borrow.Author.Rules.{rules}
 use Rattle.message.proofs.Header.read.Goals as goal
 
 pub returns : goal.returns

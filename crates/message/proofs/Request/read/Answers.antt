@@ -2,7 +2,6 @@
 -- Part by part: a label that is cut out is the one that stands there. Assumes nothing.
 use Rattle.label.proofs.Label.{label_b_cut}
 use Rattle.message.specs.Requests.{request_of}
-use borrow.Author.Rules.{rules}
 use Rattle.message.proofs.Request.read.Goals as goal
 
 pub returns : goal.returns

@@ -1,6 +1,5 @@
 -- `Rule::cause` answers the cause of a rule.
 -- By the rule. Assumes nothing.
-use borrow.Author.Rules.{rules}
 use Rattle.rules.proofs.Rule.cause.Goals as goal
 
 pub returns-in-Marked : goal.returns-in-Marked

@@ -12,7 +12,6 @@ use Rattle.message.specs.declared.Deed.TheVariants.{Refused}
 use Rattle.rules.specs.contracts.Rule.{the_type}
 use Rattle.rules.specs.declared.Rule.{Rule}
 use Rattle.rules.proofs.Rules.{Ruled, accepts, shuts_out, wrong_time, refuses, ruled}
-use borrow.Author.Rules.{rules}
 use Rattle.rules.proofs.Rule.deed.Goals as goal
 
 abbrev others : List ℕ

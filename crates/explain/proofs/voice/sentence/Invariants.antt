@@ -1,0 +1,10 @@
+-- `sentence` goes on octet by octet.
+-- What is left of the phrase gets shorter. Assumes nothing.
+use Rattle.std.proofs.Common.{◌-◌, length}
+use Rattle.explain.proofs.voice.sentence.Given as goal
+
+abbrev pub invariant-loop-i : goal.invariant-loop-i
+invariant-loop-i l = Unit {0}
+
+abbrev pub decreases-loop-i : goal.decreases-loop-i
+decreases-loop-i l = length l.phrase - l.i
