@@ -5,7 +5,8 @@ Compares the definitions of crates/*/specs, the structs, enums and promises of c
 name by name, and writes into docs/landings/NOTE.md, between the two marks that stand there, how many stayed and which moved. With --prove both
 commits are proved from nothing, one after the other, in clones of their own, and the times are written too; without it those that stand there stay.
 What is compared is text without comments and layout: a definition is its type and its lines, a promise is a function's head with its contract,
-a theorem its type and that of the modules around it, and a proof what stands below. Imports are not compared.
+a theorem its type and that of the modules around it, and a proof what stands below; a function's proof is all that its folder has. Imports are not compared.
+Commits of the older Rattle are read, too, but `--prove` needs its kit.
 """
 
 import re
@@ -16,11 +17,11 @@ import tempfile
 import time
 from pathlib import Path
 
-from sources import functions
+from sources import body_at, functions
 
 ROOT = Path(__file__).resolve().parent.parent
 BEGIN, END = "<!--moved-->", "<!---->"
-TIMES = "| `rt prove`"
+TIMES, PROVING = "| `rt ", ("rt", "ci", "--anew")
 HEAD = re.compile(r" *(?:pub |abbrev |unfoldable )*(record |data )?([^\s(){}:]+) ")
 
 
@@ -89,10 +90,7 @@ def promises(text):
     """(name, head with contract) of each function of a source file."""
     lines = text.splitlines()
     for name, at, _ in functions(lines):
-        end = at
-        while lines[end].strip() != "{" and not lines[end].endswith(") {") and not re.search(r"-> \w+ \{$", lines[end]):
-            end += 1
-        yield name, plain(lines[at:end + 1])
+        yield name, plain(lines[at:body_at(lines, at) + 1])
 
 
 def types(text):
@@ -115,15 +113,17 @@ def read(commit):
         elif part == "specs":
             for name, head, body in declarations(text):
                 said["definitions"][crate, f"{rest[:-5]}.{name}"] = (head + body, "")
-        elif rest.endswith("/Proof.antt"):
-            function = rest[:-len("/Proof.antt")].replace("/", "::")
-            said["functions' proofs"][crate, function] = ("", plain(text.splitlines()))
+        elif rest.endswith(OF_A_FUNCTION):
+            function = rest.rpartition("/")[0].replace("/", "::")
+            others = said["functions' proofs"].get((crate, function), ("", ""))[1]
+            said["functions' proofs"][crate, function] = ("", f"{others} {plain(text.splitlines())}".strip())
         else:
             for name, head, body in declarations(text):
                 said["theorems"][crate, f"{rest[:-5]}.{name}"] = (head, body)
     return said
 
 
+OF_A_FUNCTION = ("/Answers.antt", "/Invariants.antt", "/Proof.antt")
 KINDS = ("definitions", "structs and enums", "promises", "theorems", "functions' proofs")
 
 
@@ -155,12 +155,12 @@ def moved(before, after):
 
 
 def proving_time(commit):
-    """Seconds, and seconds of processor, that `rt prove` takes in a clone of its own."""
+    """Seconds, and seconds of processor, that `rt ci --anew` takes in a clone of its own: every proof and edit from nothing, and the programs."""
     with tempfile.TemporaryDirectory() as folder:
         subprocess.run(("git", "clone", "-q", ROOT, folder), check=True)
         subprocess.run(("git", "-C", folder, "checkout", "-q", commit), check=True)
         used, began = resource.getrusage(resource.RUSAGE_CHILDREN), time.monotonic()
-        done = subprocess.run(("rt", "prove"), cwd=folder, capture_output=True, text=True)
+        done = subprocess.run(PROVING, cwd=folder, capture_output=True, text=True)
         took, now = time.monotonic() - began, resource.getrusage(resource.RUSAGE_CHILDREN)
     if done.returncode != 0:
         sys.exit(f"landing: {commit} is not proved:\n{done.stdout[-2000:]}{done.stderr[-2000:]}")
@@ -176,9 +176,9 @@ def main(note, before, after, *words):
     if not mark or not end:
         sys.exit(f"landing: {path} has no {BEGIN} .. {END}")
     if words == ("--prove",):
-        times = f"{TIMES} of {before} and of {after} | {proving_time(before)} | {proving_time(after)} |"
+        times = f"| `{' '.join(PROVING)}` of {before} and of {after} | {proving_time(before)} | {proving_time(after)} |"
     else:
-        times = next((line for line in old.splitlines() if line.startswith(TIMES)), f"{TIMES} | not measured | not measured |")
+        times = next((line for line in old.splitlines() if line.startswith(TIMES)), f"| `{' '.join(PROVING)}` | not measured | not measured |")
     lines = [f"From {before} to {after}:", "", *moved(before, after), "", "| | before | after |", "|---|---|---|", times]
     path.write_text(head + BEGIN + "\n\n" + "\n".join(lines) + "\n\n" + END + tail, encoding="utf8")
 

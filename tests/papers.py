@@ -10,7 +10,8 @@
 - README.md and docs/WHY.md: explain's examples are those that are run.
 
 It is an error if a public call has no row, a row no call, a call with a contract fewer than two wrong answers, an edit a call that
-is not there, or a file of definitions no place in docs/READING.md. Status 1 then, and with --check if a document is not current.
+is not there, a crate that hands another one's calls to C a promise of its own, or a file of definitions no place in docs/READING.md.
+Status 1 then, and with --check if a document is not current.
 """
 
 import re
@@ -19,7 +20,7 @@ import sys
 from edits import read_edits
 from programs import ROOT
 from slips import TABLE as SLIPS, rests_on
-from sources import functions
+from sources import clauses, functions
 
 CRATES, CONTRACTS, READING = ROOT / "crates", ROOT / "docs" / "CONTRACTS.md", ROOT / "docs" / "READING.md"
 README, WHY, STORED = ROOT / "README.md", ROOT / "docs" / "WHY.md", CRATES / "explain"
@@ -28,13 +29,16 @@ WORKED_OUT = ("fields/specs/working/Key", "image/specs/working/Keys", "choice/sp
               "names/specs/working/Pass")
 PROGRAMS = ("input", "stream", "printing", "turns", "driving", "explain")
 BESIDES = "## What is said besides"
+SAYS_NOTHING = ("Unit {0}", "⊤")
+EXPORTS = {"collector_c": "collector"}
 
 
 class Call:
     """A public function, and the wrong answers that are tried against its contract."""
 
-    def __init__(self, crate, name, has_contract):
-        self.crate, self.name, self.has_contract = crate, name, has_contract
+    def __init__(self, crate, name, ensured):
+        self.crate, self.name, self.ensured = crate, name, ensured
+        self.has_contract = any(says not in SAYS_NOTHING for says in ensured)
         self.theorems, self.edits = [], []
 
     def ruled_out(self):
@@ -48,18 +52,15 @@ def calls_of(crate):
         lines = file.read_text(encoding="utf8").splitlines()
         for name, at, public in functions(lines):
             if public:
-                calls[name] = Call(crate, name, has_contract(lines[at:]))
+                calls[name] = Call(crate, name, clauses(lines, at, "ensures"))
     return calls
 
 
-def has_contract(lines):
-    """Whether an `ensures` stands between a function's name and its body, and says something."""
-    for line in lines:
-        if "ensures {" in line:
-            return "⊤ₛ" not in line
-        if line.endswith("{"):
-            return False
-    return False
+def see_exports(crate, calls, errors):
+    """A crate that hands calls of another one to C promises of each what that one does; so its calls are listed there alone."""
+    for call in calls_of(crate).values():
+        if call.name not in calls or call.ensured != calls[call.name].ensured:
+            errors.append(f"{crate}: {call.name} promises something else than the call of {EXPORTS[crate]}")
 
 
 def commented(text):
@@ -99,10 +100,13 @@ def read_calls(errors):
     """All crates' public calls with what is tried against them."""
     every = {}
     for folder in sorted(CRATES.iterdir()):
-        every[folder.name] = calls_of(folder.name)
-        read_theorems(folder.name, every[folder.name], errors)
+        if folder.name not in EXPORTS:
+            every[folder.name] = calls_of(folder.name)
+            read_theorems(folder.name, every[folder.name], errors)
+    for crate, of in EXPORTS.items():
+        see_exports(crate, every[of], errors)
     for edit in read_edits():
-        call = every[edit.crate].get(edit.call)
+        call = every.get(edit.crate, {}).get(edit.call)
         if call:
             call.edits.append(edit.says)
         else:
@@ -150,7 +154,8 @@ def definitions_in(files):
 def used_by(file):
     """The files of definitions that a file imports names of."""
     text = file.read_text(encoding="utf8")
-    return {f"{crate}/specs/{module}" for crate, module in re.findall(r"^(?:ghost )?use Rattle·(\w+)(?:·specs)?\.specs\.(?!declared\.)(\w+)", text, re.M)}
+    used = re.findall(r"^(?:ghost )?use Rattle\.(\w+)\.specs\.(?!declared\.)(\w+)", text, re.M)
+    return {f"{crate}/specs/{module}" for crate, module in used if (CRATES / crate).is_dir()}
 
 
 def see_closed(believed, specs, errors):

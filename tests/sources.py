@@ -2,6 +2,9 @@
 
 import re
 
+# How a clause of a contract begins; several have a name each: `ensures kept { .. }`.
+CLAUSE = re.compile(r"\b(requires|ensures|decreases)\*?(?: \w+)? \{")
+
 
 def functions(lines):
     """(name, line number from 0, whether it is public) of each function; a method is `Type::name`."""
@@ -13,3 +16,19 @@ def functions(lines):
             owner = ""
         elif found := re.match(r"\s*(pub )?(?:pub\(crate\) )?(?:extern \"C\" )?fn (\w+)", line):
             yield owner + found.group(2), at, bool(found.group(1))
+
+
+def body_at(lines, at):
+    """The number of the line in which the body of a function opens, whose head begins at a line. Between the two stands its contract."""
+    indent = re.match(r"\s*", lines[at]).group()
+    while not re.match(rf"{indent}(?:\S.*)?(?:\{{|\{{\}}|;)$", lines[at]) or CLAUSE.search(lines[at]):
+        at += 1
+    return at
+
+
+def clauses(lines, at, kind):
+    """What the clauses of a kind say of the function whose head begins at a line: `ensures { result ≡ 1 }` says `result ≡ 1`."""
+    contract = " ".join(line.strip() for line in lines[at:body_at(lines, at)])
+    heads = list(CLAUSE.finditer(contract))
+    ends = [head.start() for head in heads[1:]] + [len(contract)]
+    return [contract[head.end():end].strip().removesuffix("}").strip() for head, end in zip(heads, ends) if head.group(1) == kind]
