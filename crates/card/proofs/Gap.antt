@@ -19,7 +19,6 @@ use Rattle.frame.specs.declared.Service.{Service}
 use Rattle.frame.specs.Frame.{fault_number}
 use Rattle.frame.specs.Writing.{plain, reply_octets}
 use Rattle.image.specs.Image.{sound_image}
-use Rattle.link.specs.declared.Link.{Link}
 use Rattle.link.specs.declared.Sends.{Sends}
 use Rattle.link.specs.declared.Sends.TheVariants.{NotReset, Remembered, Status}
 use Rattle.link.specs.declared.Answered.{Answered}
@@ -28,11 +27,10 @@ use Rattle.link.proofs.Answering.{which}
 use Rattle.card.specs.declared.Card.{Card}
 use Rattle.card.specs.declared.Finding.{Finding}
 use Rattle.card.specs.declared.Finding.TheVariants.{Faulty, OtherLink, NotOffered, Asks}
-use Rattle.card.specs.declared.Examined.{Examined}
 use Rattle.card.specs.declared.Gone.{Gone}
 use Rattle.card.specs.State.{left_with, damaged_by}
-use Rattle.card.specs.Examining.{no_frame, examined}
-use Rattle.card.specs.Gap.{Outcome, refusal, replied_by, after_sending, after_answer, after_finding, after_examining, gapped, gone_by, Gapped}
+use Rattle.card.specs.Examining.{examined}
+use Rattle.card.specs.Gap.{Outcome, refusal, replied_by, after_answer, after_finding, after_examining, gapped, gone_by, Gapped}
 
 module _ (card : Card) (a : Answered) where
   pub answer_unreset : a.sends ≡ NotReset → after_answer card a ≡ refusal 7 (left_with a.link card)

@@ -1,17 +1,15 @@
 -- What a gap answers and leaves. Document 01, "What a gap answers": the numbers in the order 9, 8, 1, 2, 10, 3, 4, 5, 6, 7, then 0.
 -- Assumes nothing.
 use Rattle.std.specs.Prelude.{ℕ, not, List, [], ltb, length, replicate}
-use Rattle.octets.specs.First.{When, ◌⇒◌▸◌, first_of◌else◌}
+use Rattle.octets.specs.First.{◌⇒◌▸◌, first_of◌else◌}
 use Rattle.octets.specs.Over.{laid_in, Does}
 use Rattle.octets.specs.declared.Kept.{Kept}
-use Rattle.frame.specs.declared.Control.TheVariants as control
 use Rattle.frame.specs.declared.Reply.{Reply}
 use Rattle.frame.specs.Frame.{fault_number}
-use Rattle.frame.specs.Writing.{plain, reply_octets}
+use Rattle.frame.specs.Writing.{reply_octets}
 use Rattle.image.specs.Image.{sound_image}
 use Rattle.deeds.specs.declared.Order.{Order}
 use Rattle.deeds.specs.declared.Order.TheVariants as order
-use Rattle.link.specs.declared.Link.{Link}
 use Rattle.link.specs.declared.Sends.{Sends}
 use Rattle.link.specs.declared.Sends.TheVariants.{NotReset, Remembered, Status}
 use Rattle.link.specs.declared.Answered.{Answered}

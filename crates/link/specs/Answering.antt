@@ -2,7 +2,7 @@
 -- Assumes nothing.
 use Rattle.std.specs.Prelude.{ℕ, not, ◌||◌, List, [], ltb, eqb, replicate}
 use Rattle.octets.specs.Choice.{when◌then◌else◌}
-use Rattle.octets.specs.First.{When, ◌⇒◌▸◌, first_of◌else◌}
+use Rattle.octets.specs.First.{◌⇒◌▸◌, first_of◌else◌}
 use Rattle.octets.specs.declared.Kept.{Kept}
 use Rattle.address.specs.declared.LinkAddress.{LinkAddress}
 use Rattle.frame.specs.declared.Control.TheVariants.{Ack, Nack, NothingToGive}

@@ -3,7 +3,7 @@
 use Prim.Native.Nat.{ℕ, ◌≤◌}
 use mathlib.Core.Bool.{Bool, true, false, not, ◌&&◌, ◌||◌}
 use mathlib.Core.List.{List, []}
-use mathlib.Core.Path.{◌≡◌, refl, ap, sym, ◌∙◌}
+use mathlib.Core.Path.{◌≡◌, refl}
 use native.Mathlib.Omega.{arith}
 use lib.Dec.{ltb, eqb}
 use lib.ListN.{length, drop, length-take}
@@ -16,7 +16,6 @@ use Rattle.frame.specs.declared.Fault.{Fault}
 use Rattle.frame.specs.declared.Fault.TheVariants.{Empty, Long, Parity, Malformed, Spoiled}
 use Rattle.frame.specs.declared.Form.TheVariants as form
 use Rattle.frame.specs.declared.Service.{Service}
-use Rattle.frame.specs.declared.Service.TheVariants.{Reset, UserData, Status, Collection}
 use Rattle.frame.specs.declared.Asked.{Asked}
 use Rattle.frame.specs.declared.Asked.TheVariants.{Is, NotOffered}
 use Rattle.frame.specs.Family.{sapr}
@@ -28,7 +27,6 @@ use Rattle.profile.specs.declared.Profile.{Profile}
 use Rattle.profile.specs.Profile.{judge_marked}
 use Rattle.collector.specs.Collecting.{emptied, is_overfull, run_of, verdict_of}
 use Rattle.collector.specs.Damage.{one_more}
-use Rattle.link.specs.declared.Link.{Link}
 use Rattle.link.specs.declared.Answered.{Answered}
 use Rattle.link.specs.Answering.{answered_by, noted, carried}
 use Rattle.link.proofs.Answering.{Way, as_reset, as_status, not_reset, repeated, as_nack, carried_out_law, as_given, nothing_given, way}

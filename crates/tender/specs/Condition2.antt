@@ -2,7 +2,7 @@
 -- refusals, readings chosen by number only. Every reply is a sound frame, and read by the same frame rules it gives back the message that the
 -- definition says was meant." The first sentence is `Condition2`, and its count bit once more, by itself, `CountBit`; the second is `SoundReplies`.
 -- Assumes nothing.
-use Rattle.std.specs.Prelude.{ℕ, ◌≤◌, ◌<◌, List, ◌≡◌, length, get_or}
+use Rattle.std.specs.Prelude.{ℕ, ◌≤◌, ◌<◌, ◌≡◌, length, get_or}
 use Rattle.octets.specs.declared.Kept.{Kept}
 use Rattle.history.specs.History.{AllFit, AtGaps}
 use Rattle.frame.specs.declared.Reply.{Reply}

@@ -1,7 +1,7 @@
 -- Document 01's rules of the link, of orders, of the session and of what waits, one by one, each beside the paper's sentence: first as statements about any
 -- card's gap, collected in `Rules`, then about the definitions that these cite. What a card leaves is spelled part by part, so that a part which changes
 -- where it may not is seen. `P ⊎ Q` says: P or Q. Assumes nothing.
-use Rattle.std.specs.Prelude.{ℕ, ◌-◌, ◌+◌, ◌≤◌, Bool, true, false, ◌||◌, List, [], ◌∷◌, ◌++◌, map, ◌⊎◌, ◌≡◌, ltb, length, drop, replicate}
+use Rattle.std.specs.Prelude.{ℕ, ◌≤◌, Bool, true, false, ◌||◌, List, [], ◌∷◌, ◌++◌, map, ◌⊎◌, ◌≡◌, ltb, length, drop, replicate}
 use Rattle.octets.specs.Over.{laid_in}
 use Rattle.history.specs.History.{Stepped, Each}
 use Rattle.address.specs.declared.LinkAddress.{LinkAddress}

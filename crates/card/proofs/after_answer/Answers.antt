@@ -1,7 +1,6 @@
 -- `after_answer` answers the gap once the frame is answered.
 -- By what is sent. Assumes nothing.
 use Rattle.card.proofs.Gap.{gapped_same, answer_unreset, answer_remembered, answer_status, refused_gap, replied_gap}
-use borrow.Author.Rules.{rules}
 use Rattle.card.proofs.after_answer.Goals as goal
 
 pub returns-in-NotReset : goal.returns-in-NotReset

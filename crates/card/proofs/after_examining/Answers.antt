@@ -2,7 +2,6 @@
 -- By the finding. Assumes nothing.
 use Rattle.card.specs.Gap.{after_examining}
 use Rattle.card.proofs.Gap.{refused_gap}
-use borrow.Author.Rules.{rules}
 use Rattle.card.proofs.after_examining.Goals as goal
 
 pub returns-in-Faulty : goal.returns-in-Faulty

@@ -2,7 +2,6 @@
 -- By its link address. Assumes nothing.
 use Rattle.octets.proofs.Choice.{told}
 use Rattle.card.specs.Examining.{examined_frame}
-use borrow.Author.Rules.{rules}
 use Rattle.card.proofs.examine_frame.Goals as goal
 
 pub returns-then-is_link : goal.returns-then-is_link

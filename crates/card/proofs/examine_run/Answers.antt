@@ -3,7 +3,6 @@
 use mathlib.Core.Path.{sym, ap, ◌∙◌}
 use Rattle.frame.proofs.Judging.{faulty_verdict, fixed_verdict, variable_verdict}
 use Rattle.card.specs.Examining.{examined_verdict}
-use borrow.Author.Rules.{rules}
 use Rattle.card.proofs.examine_run.Goals as goal
 
 pub examine_frame-requires-in-Variable : goal.examine_frame-requires-in-Variable

@@ -1,6 +1,5 @@
 -- `found` answers a finding without user octets.
 -- No octets are kept. Assumes nothing.
-use borrow.Author.Rules.{rules}
 use Rattle.card.proofs.found.Goals as goal
 
 pub returns : goal.returns

@@ -3,7 +3,6 @@
 use mathlib.Core.Path.{sym, ap, ◌∙◌}
 use Rattle.fields.specs.declared.IdentityFound.{IdentityFound}
 use Rattle.card.specs.Examining.{is_link}
-use borrow.Author.Rules.{rules}
 use Rattle.card.proofs.is_link.Goals as goal
 
 pub returns-in-Is : goal.returns-in-Is

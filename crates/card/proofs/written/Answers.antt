@@ -1,7 +1,6 @@
 -- `written` writes a reply.
 -- The buffer is long enough. Assumes nothing.
 use Rattle.frame.proofs.Writing.{written_whole, never_short}
-use borrow.Author.Rules.{rules}
 use Rattle.card.proofs.written.Goals as goal
 
 pub returns-in-Short : goal.returns-in-Short

@@ -1,9 +1,6 @@
 -- `are_bits` answers whether every second octet is a parity bit.
 -- The loop's invariant: what is asked of the pairs that are left is what is asked of all. Assumes nothing.
-use Prim.Native.Nat.{◌-◌, ◌≤◌}
-use mathlib.Core.Path.{◌≡◌, sym, ◌∙◌}
-use lib.ListN.{length, drop}
-use Rattle.input.specs.Input.{are_bits}
+use mathlib.Core.Path.{sym, ◌∙◌}
 use Rattle.input.proofs.Pairs.{bits_next, bits_wrong, bits_end}
 use borrow.Author.Rules.{rules}
 use Rattle.input.proofs.are_bits.Goals as goal

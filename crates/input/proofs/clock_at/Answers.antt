@@ -1,6 +1,5 @@
 -- `clock_at` answers the clock from an index on.
 -- Seven octets at most are put over seven zeros. Assumes nothing.
-use borrow.Author.Rules.{rules}
 use Rattle.input.proofs.Input.{clock_is}
 use Rattle.input.proofs.clock_at.Goals as goal
 

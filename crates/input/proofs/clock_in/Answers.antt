@@ -1,6 +1,5 @@
 -- `clock_in` answers the clock of a head.
 -- It stands behind the image. Assumes nothing.
-use borrow.Author.Rules.{rules}
 use Rattle.input.specs.Input.{clock_in}
 use Rattle.input.proofs.clock_in.Goals as goal
 

@@ -1,7 +1,6 @@
 -- `image_in` answers the image of a head.
 -- It is a part of the octets read. Assumes nothing.
 use Rattle.input.specs.Input.{image_in}
-use borrow.Author.Rules.{rules}
 use Rattle.input.proofs.image_in.Goals as goal
 
 pub returns : goal.returns

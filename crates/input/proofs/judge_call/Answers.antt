@@ -2,7 +2,6 @@
 -- By its tests, one after the other. Assumes nothing.
 use Rattle.octets.proofs.Choice.{tests}
 use Rattle.input.specs.Input.{call_found}
-use borrow.Author.Rules.{rules}
 use Rattle.input.proofs.judge_call.Goals as goal
 
 pub returns-then-read-lt1 : goal.returns-then-read-lt1

@@ -2,7 +2,6 @@
 -- By its tests, in document 01's order. Assumes nothing.
 use Rattle.octets.proofs.Choice.{tests, told}
 use Rattle.input.specs.Input.{head_found}
-use borrow.Author.Rules.{rules}
 use Rattle.input.proofs.judge_head.Goals as goal
 
 pub returns-then-read-lt1 : goal.returns-then-read-lt1

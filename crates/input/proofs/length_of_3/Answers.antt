@@ -3,7 +3,6 @@
 use Rattle.input.proofs.Input.{high_zero}
 use mathlib.Core.Path.{◌∙◌}
 use Rattle.input.specs.Input.{length_of3}
-use borrow.Author.Rules.{rules}
 use Rattle.input.proofs.length_of_3.Goals as goal
 
 pub returns : goal.returns

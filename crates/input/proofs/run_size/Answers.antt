@@ -2,7 +2,6 @@
 -- By its test. Assumes nothing.
 use Rattle.octets.proofs.Choice.{tests}
 use Rattle.input.specs.Input.{run_size}
-use borrow.Author.Rules.{rules}
 use Rattle.input.proofs.run_size.Goals as goal
 
 pub returns-then-read-lt2 : goal.returns-then-read-lt2

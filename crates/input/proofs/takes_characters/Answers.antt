@@ -3,7 +3,6 @@
 use mathlib.Core.Bool.{and-true, and-false}
 use mathlib.Core.Path.{sym}
 use lib.Dec.{eqb}
-use borrow.Author.Rules.{rules}
 use Rattle.input.proofs.takes_characters.Goals as goal
 
 pub returns-in-Ten : goal.returns-in-Ten

@@ -1,6 +1,5 @@
 -- `link_in` answers the link address that is found.
 -- By what is found. Assumes nothing.
-use borrow.Author.Rules.{rules}
 use Rattle.link.proofs.link_in.Goals as goal
 
 pub returns-in-Nothing : goal.returns-in-Nothing

@@ -3,7 +3,6 @@
 use mathlib.Core.List.{append_assoc}
 use Rattle.printing.specs.Line.{beginning}
 use Rattle.printing.proofs.Lines.{short_behind}
-use borrow.Author.Rules.{rules}
 use Rattle.printing.proofs.begin.Goals as goal
 
 pub returns : goal.returns

@@ -2,7 +2,6 @@
 -- Column behind column. Assumes nothing.
 use mathlib.Core.List.{append_assoc}
 use Rattle.printing.proofs.Lines.{short_behind}
-use borrow.Author.Rules.{rules}
 use Rattle.printing.proofs.gap_head.Goals as goal
 
 pub returns : goal.returns

@@ -2,7 +2,6 @@
 -- What is laid is the first part of the head's array. Assumes nothing.
 use Rattle.printing.specs.Line.{gap_line}
 use Rattle.printing.proofs.Lines.{up_to_end}
-use borrow.Author.Rules.{rules}
 use Rattle.printing.proofs.gap_line.Goals as goal
 
 pub returns : goal.returns

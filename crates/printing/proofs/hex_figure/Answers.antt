@@ -2,7 +2,6 @@
 -- By whether it is a letter. Assumes nothing.
 use Rattle.octets.proofs.Choice.{tests}
 use Rattle.printing.specs.Text.{hex_figure}
-use borrow.Author.Rules.{rules}
 use Rattle.printing.proofs.hex_figure.Goals as goal
 
 pub returns-then-n-lt10 : goal.returns-then-n-lt10

@@ -1,7 +1,6 @@
 -- `lay` writes a whole line or leaves the buffer.
 -- By whether there is room for it. Assumes nothing.
 use Rattle.printing.proofs.Lines.{room_whole, lined_whole, lined_none}
-use borrow.Author.Rules.{rules}
 use Rattle.printing.proofs.lay.Goals as goal
 
 pub put_line-requires : goal.put_line-requires

@@ -2,7 +2,6 @@
 -- What is laid is the first part of the head's array. Assumes nothing.
 use Rattle.printing.specs.Line.{line_of}
 use Rattle.printing.proofs.Lines.{up_to_end, reply_behind}
-use borrow.Author.Rules.{rules}
 use Rattle.printing.proofs.line.Goals as goal
 
 pub returns : goal.returns

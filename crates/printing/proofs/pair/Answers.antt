@@ -1,7 +1,6 @@
 -- `pair` answers an octet as two hex figures.
 -- By what each of them is. Assumes nothing.
 use Rattle.printing.specs.Text.{pair_of}
-use borrow.Author.Rules.{rules}
 use Rattle.printing.proofs.pair.Goals as goal
 
 pub returns : goal.returns

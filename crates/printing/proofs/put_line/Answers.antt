@@ -2,7 +2,6 @@
 -- Its tail behind its head. Assumes nothing.
 use mathlib.Core.List.{append_assoc}
 use Rattle.printing.proofs.Lines.{behind}
-use borrow.Author.Rules.{rules}
 use Rattle.printing.proofs.put_line.Goals as goal
 
 pub returns : goal.returns

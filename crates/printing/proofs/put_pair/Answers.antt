@@ -1,7 +1,6 @@
 -- `put_pair` writes one pair behind what stands before it.
 -- Two parts are put, one behind the other. Assumes nothing.
 use Rattle.printing.proofs.Lines.{behind}
-use borrow.Author.Rules.{rules}
 use Rattle.printing.proofs.put_pair.Goals as goal
 
 pub returns : goal.returns

@@ -2,12 +2,10 @@
 -- The loop's invariant: the pairs of the first i octets are put. Assumes nothing.
 use borrow.Author.Rules.{rules}
 use native.Mathlib.Omega.{arith}
-use Prim.Native.Nat.{◌≤◌, ◌-◌}
-use mathlib.Core.Path.{◌≡◌}
-use lib.ListN.{length, take}
+use Prim.Native.Nat.{◌≤◌}
+use lib.ListN.{length}
 use lib.Seq.{take_all}
 use Rattle.printing.specs.Text.{pairs}
-use Rattle.printing.specs.Line.{PutAt}
 use Rattle.printing.proofs.Text.{pairs_room}
 use Rattle.printing.proofs.Lines.{put_nothing, pair_behind}
 use Rattle.printing.proofs.put_pairs.Goals as goal

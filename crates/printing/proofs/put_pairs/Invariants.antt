@@ -1,15 +1,10 @@
 -- `put_pairs` writes the pairs of octets and answers where they end.
 -- The loop's invariant: the pairs of the first i octets are put. Assumes nothing.
-use borrow.Author.Rules.{rules}
-use native.Mathlib.Omega.{arith}
 use Prim.Native.Nat.{◌≤◌, ◌-◌}
 use mathlib.Core.Path.{◌≡◌}
 use lib.ListN.{length, take}
-use lib.Seq.{take_all}
 use Rattle.printing.specs.Text.{pairs}
 use Rattle.printing.specs.Line.{PutAt}
-use Rattle.printing.proofs.Text.{pairs_room}
-use Rattle.printing.proofs.Lines.{put_nothing, pair_behind}
 use Rattle.printing.proofs.put_pairs.Given as goal
 
 abbrev pub invariant-loop-i : goal.invariant-loop-i

@@ -1,7 +1,6 @@
 -- `put_part` writes a part of a line.
 -- What fits is put there. Assumes nothing.
 use Rattle.printing.proofs.Lines.{put_at}
-use borrow.Author.Rules.{rules}
 use Rattle.printing.proofs.put_part.Goals as goal
 
 pub returns : goal.returns

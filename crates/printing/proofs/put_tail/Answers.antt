@@ -1,7 +1,6 @@
 -- `put_tail` writes what stands behind the head of a line.
 -- A part behind another. Assumes nothing.
 use Rattle.printing.proofs.Lines.{behind}
-use borrow.Author.Rules.{rules}
 use Rattle.printing.proofs.put_tail.Goals as goal
 
 pub returns : goal.returns

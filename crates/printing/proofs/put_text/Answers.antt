@@ -1,6 +1,5 @@
 -- `put_text` writes a text, or leaves the buffer.
 -- By whether it could be put. Assumes nothing.
-use borrow.Author.Rules.{rules}
 use Rattle.printing.proofs.Lines.{put_lined, unput_lined}
 use Rattle.printing.proofs.put_text.Goals as goal
 

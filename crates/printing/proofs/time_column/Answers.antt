@@ -1,7 +1,6 @@
 -- `time_column` writes the octets of an order between two spaces.
 -- Part behind part. Assumes nothing.
 use Rattle.printing.proofs.Lines.{short_behind}
-use borrow.Author.Rules.{rules}
 use Rattle.printing.proofs.time_column.Goals as goal
 
 pub returns : goal.returns

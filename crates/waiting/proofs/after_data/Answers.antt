@@ -2,7 +2,6 @@
 -- By how many records are given. Assumes nothing.
 use borrow.Author.Tests.{eq-eqb, ne_eqb}
 use Rattle.waiting.specs.NextReply.{firstly, after_data}
-use borrow.Author.Rules.{rules}
 use Rattle.waiting.proofs.after_data.Goals as goal
 
 pub returns-then-some-eq0 : goal.returns-then-some-eq0

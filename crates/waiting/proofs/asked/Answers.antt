@@ -1,7 +1,6 @@
 -- `asked` answers what the request that is kept asks.
 -- It is read from its octets. Assumes nothing.
 use Rattle.octets.specs.Keeping.{octets_of}
-use borrow.Author.Rules.{rules}
 use Rattle.waiting.proofs.asked.Goals as goal
 
 pub returns : goal.returns

@@ -1,7 +1,6 @@
 -- `begin` answers mirror 7, and that data waits.
 -- By its parts. Assumes nothing.
 use Rattle.waiting.specs.NextReply.{firstly, begin_with}
-use borrow.Author.Rules.{rules}
 use Rattle.waiting.proofs.begin.Goals as goal
 
 pub returns : goal.returns

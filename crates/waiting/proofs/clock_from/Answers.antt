@@ -1,7 +1,6 @@
 -- `clock_from` answers the clock that was taken.
 -- Type 72 for the request's point. Assumes nothing.
 use Rattle.waiting.specs.NextReply.{clock_from}
-use borrow.Author.Rules.{rules}
 use Rattle.waiting.proofs.clock_from.Goals as goal
 
 pub returns : goal.returns

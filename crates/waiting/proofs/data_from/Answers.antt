@@ -2,7 +2,6 @@
 -- By the request's type. Assumes nothing.
 use borrow.Author.Tests.{eq-eqb, ne_eqb}
 use Rattle.waiting.specs.NextReply.{data_from}
-use borrow.Author.Rules.{rules}
 use Rattle.waiting.proofs.data_from.Goals as goal
 
 pub returns-then-type_id-eq102 : goal.returns-then-type_id-eq102

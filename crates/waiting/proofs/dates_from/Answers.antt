@@ -1,6 +1,5 @@
 -- `dates_from` answers the switch dates, or mirror 14.
 -- By what the image has. Assumes nothing.
-use borrow.Author.Rules.{rules}
 use Rattle.waiting.proofs.dates_from.Goals as goal
 
 pub returns-in-Is : goal.returns-in-Is

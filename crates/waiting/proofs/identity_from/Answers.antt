@@ -1,6 +1,5 @@
 -- `identity_from` answers what the meter is, or mirror 14.
 -- By what the image has. Assumes nothing.
-use borrow.Author.Rules.{rules}
 use Rattle.waiting.proofs.identity_from.Goals as goal
 
 pub returns-in-Is : goal.returns-in-Is

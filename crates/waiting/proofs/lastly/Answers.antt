@@ -1,7 +1,6 @@
 -- `lastly` answers a reply behind which nothing waits.
 -- By its parts. Assumes nothing.
 use Rattle.waiting.specs.NextReply.{firstly, lastly}
-use borrow.Author.Rules.{rules}
 use Rattle.waiting.proofs.lastly.Goals as goal
 
 pub returns : goal.returns

@@ -1,7 +1,6 @@
 -- `mirror_with` answers a mirror behind which nothing waits.
 -- The request is mirrored. Assumes nothing.
 use Rattle.waiting.specs.NextReply.{mirror_with}
-use borrow.Author.Rules.{rules}
 use Rattle.waiting.proofs.mirror_with.Goals as goal
 
 pub returns : goal.returns

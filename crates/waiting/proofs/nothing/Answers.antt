@@ -1,7 +1,6 @@
 -- `nothing` answers that nothing waits.
 -- By its parts. Assumes nothing.
 use Rattle.waiting.specs.NextReply.{nothing_found}
-use borrow.Author.Rules.{rules}
 use Rattle.waiting.proofs.nothing.Goals as goal
 
 pub returns : goal.returns

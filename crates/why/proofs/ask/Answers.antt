@@ -1,6 +1,5 @@
 -- `ask` answers why a message is refused.
 -- By the way that it takes. Assumes nothing.
-use borrow.Author.Rules.{rules}
 use Rattle.octets.proofs.Choice.{told}
 use Rattle.why.proofs.Asking.{unsound, too_short, too_long, named_so}
 use Rattle.why.proofs.ask.Goals as goal

@@ -1,6 +1,5 @@
 -- `line` puts together the line of an answer.
 -- By the answer. Assumes nothing.
-use borrow.Author.Rules.{rules}
 use Rattle.octets.specs.Calls.{added}
 use Rattle.octets.specs.Keeping.{kept_of}
 use Rattle.octets.specs.Over.{over}

@@ -1,7 +1,6 @@
 -- `named` puts together the line of a rule.
 -- Part by part; what it comes to is computed. Assumes nothing.
 use mathlib.Core.Path.{sym, ◌∙◌}
-use borrow.Author.Rules.{rules}
 use borrow.Author.Tests.{eq-eqb, ne_eqb}
 use Rattle.why.specs.Naming.{place_of}
 use Rattle.why.proofs.Told.{named_line}

@@ -1,6 +1,5 @@
 -- `place` answers the place of a rule.
 -- By the rule. Assumes nothing.
-use borrow.Author.Rules.{rules}
 use Rattle.why.proofs.place.Goals as goal
 
 pub returns-in-Marked : goal.returns-in-Marked

@@ -1,6 +1,5 @@
 -- `with_pn` keeps a rule's P/N behind a text.
 -- By its P/N. Assumes nothing.
-use borrow.Author.Rules.{rules}
 use Rattle.octets.proofs.Choice.{told}
 use Rattle.printing.specs.Text.{decimal, figures}
 use Rattle.why.proofs.with_pn.Goals as goal

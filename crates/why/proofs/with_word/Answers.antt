@@ -3,7 +3,6 @@
 use mathlib.Core.List.{flatten}
 use mathlib.Core.Path.{ap, ◌∙◌}
 use native.Mathlib.Omega.{arith}
-use borrow.Author.Rules.{rules}
 use Rattle.octets.specs.Calls.{added}
 use Rattle.why.proofs.Naming.{in_places, letters_few, word_there}
 use Rattle.why.proofs.with_word.Goals as goal

@@ -1,7 +1,6 @@
 -- `Card::character` answers the card with a character more.
 -- By its parts. Assumes nothing.
 use Rattle.card.specs.State.{with_character}
-use borrow.Author.Rules.{rules}
 use Rattle.card.proofs.Card.character.Goals as goal
 
 pub returns : goal.returns

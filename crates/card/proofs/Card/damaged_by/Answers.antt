@@ -2,7 +2,6 @@
 -- By whether the run is damaged. Assumes nothing.
 use Rattle.octets.proofs.Choice.{told}
 use Rattle.card.specs.State.{damaged_by}
-use borrow.Author.Rules.{rules}
 use Rattle.card.proofs.Card.damaged_by.Goals as goal
 
 pub returns-then-is_damaged : goal.returns-then-is_damaged

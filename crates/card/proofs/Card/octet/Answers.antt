@@ -1,7 +1,6 @@
 -- `Card::octet` answers the card with an octet more.
 -- By its parts. Assumes nothing.
 use Rattle.card.specs.State.{with_character}
-use borrow.Author.Rules.{rules}
 use Rattle.card.proofs.Card.octet.Goals as goal
 
 pub returns : goal.returns

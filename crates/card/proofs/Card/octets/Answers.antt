@@ -3,7 +3,6 @@
 use mathlib.Core.Path.{sym}
 use Rattle.card.proofs.State.{characters_collected}
 use Rattle.profile.specs.declared.Profile.TheVariants.{Ten}
-use borrow.Author.Rules.{rules}
 use Rattle.card.proofs.Card.octets.Goals as goal
 
 pub returns : goal.returns

@@ -1,7 +1,6 @@
 -- `Card::power_on` answers the card at power-on.
 -- By its parts. Assumes nothing.
 use Rattle.card.specs.State.{card_at_power_on}
-use borrow.Author.Rules.{rules}
 use Rattle.card.proofs.Card.power_on.Goals as goal
 
 pub returns : goal.returns

@@ -1,7 +1,6 @@
 -- `Link::after_reset` answers the link after a reset.
 -- By its parts. Assumes nothing.
 use Rattle.link.specs.State.{after_reset}
-use borrow.Author.Rules.{rules}
 use Rattle.link.proofs.Link.after_reset.Goals as goal
 
 pub returns : goal.returns

@@ -1,7 +1,6 @@
 -- `Link::answer` answers a frame.
 -- By the service that it asks for. Assumes nothing.
 use Rattle.link.specs.Answering.{answered}
-use borrow.Author.Rules.{rules}
 use Rattle.link.proofs.Link.answer.Goals as goal
 
 pub returns-in-Reset : goal.returns-in-Reset

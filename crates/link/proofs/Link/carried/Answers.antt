@@ -1,7 +1,6 @@
 -- `Link::carried` answers ACK and what a message does.
 -- Part by part. Assumes nothing.
 use Rattle.link.specs.Answering.{carried}
-use borrow.Author.Rules.{rules}
 use Rattle.link.proofs.Link.carried.Goals as goal
 
 pub returns : goal.returns

@@ -1,7 +1,6 @@
 -- `Link::collection` answers a collection afresh.
 -- By the next waiting reply. Assumes nothing.
 use Rattle.link.specs.Answering.{collection}
-use borrow.Author.Rules.{rules}
 use Rattle.link.proofs.Link.collection.Goals as goal
 
 pub returns : goal.returns

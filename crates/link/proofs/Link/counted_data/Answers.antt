@@ -2,7 +2,6 @@
 -- Before the first reset, with the last FCB, or afresh. Assumes nothing.
 use mathlib.Core.Path.{sym, ◌∙◌}
 use Rattle.link.proofs.Answering.{before_reset, with_last, with_new}
-use borrow.Author.Rules.{rules}
 use Rattle.link.proofs.Link.counted_data.Goals as goal
 
 pub returns-then-bit-self : goal.returns-then-bit-self

@@ -1,7 +1,6 @@
 -- `Link::given` answers the next waiting reply, or that there is none.
 -- By whether there is one. Assumes nothing.
 use Rattle.link.specs.Answering.{given}
-use borrow.Author.Rules.{rules}
 use Rattle.link.proofs.Link.given.Goals as goal
 
 pub returns-then-found : goal.returns-then-found

@@ -1,7 +1,6 @@
 -- `Link::noted` answers a reply that is remembered.
 -- By its parts. Assumes nothing.
 use Rattle.link.specs.Answering.{noted}
-use borrow.Author.Rules.{rules}
 use Rattle.link.proofs.Link.noted.Goals as goal
 
 pub returns : goal.returns

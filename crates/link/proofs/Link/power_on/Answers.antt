@@ -1,7 +1,6 @@
 -- `Link::power_on` answers the link at power-on.
 -- By its parts. Assumes nothing.
 use Rattle.link.specs.State.{power_on}
-use borrow.Author.Rules.{rules}
 use Rattle.link.proofs.Link.power_on.Goals as goal
 
 pub returns : goal.returns

@@ -3,7 +3,6 @@
 use borrow.Author.Tests.{lt-ltb, le-ltb}
 use Rattle.octets.proofs.Choice.{told}
 use Rattle.link.specs.Answering.{user_data}
-use borrow.Author.Rules.{rules}
 use Rattle.link.proofs.Link.user_data.Goals as goal
 
 pub returns-then-is_waiting : goal.returns-then-is_waiting
