@@ -1,3 +1,5 @@
 pub mod Collecting
+mod Parameters
+mod Lent
 mod Determined
 mod RuledOut
