@@ -32,7 +32,8 @@ KINDS = (
     ("numbers at which the goal fails", r"`omega`: the (goal|part) .*does not follow"),
     ("two sides that differ", r"the two (types|sides) (first |only )?differ|give a proof of that as the last argument|: expected type"),
     ("two sides that the known equations do not join", r"list the missing equation with its arguments"),
-    ("no proof is found", r"`search`: no proof of|`search` does not close|it is not proved that"),
+    ("values at which the goal fails", r"it is not proved that .*; the facts known there allow values"),
+    ("no proof is found", r"`search`: no proof of|`search` does not close"),
 )
 TOLD = re.compile(r"rt: must-fail (\w+)/([\w.-]+)\.edit: (.*)")
 REFUSED = "refused, as it must be"
