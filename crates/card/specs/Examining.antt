@@ -1,39 +1,37 @@
 -- A run examined. Document 01, "What a gap answers", 1 to 6, and 10 between 2 and 3: empty, over 261 octets, a parity bit wrong, not the form of a frame,
 -- checksum wrong, other link address, control field not offered; or a sound frame for this card, and what it asks. Assumes nothing.
-use Rattle.std.specs.Prelude.{ℕ, Bool, false, not, List, []}
+use Rattle.std.specs.Prelude.{ℕ, Bool, false, not, List, [], Option, Some, None}
 use Rattle.octets.specs.Choice.{when◌then◌else◌}
 use Rattle.octets.specs.Keeping.{kept_of}
 use Rattle.address.specs.declared.LinkAddress.{LinkAddress}
 use Rattle.address.specs.Address.{same_link}
 use Rattle.frame.specs.declared.Form.{Form}
 use Rattle.frame.specs.declared.Form.TheVariants.{Fixed, Variable}
-use Rattle.frame.specs.declared.Asked.{Asked}
-use Rattle.frame.specs.declared.Asked.TheVariants as asked
 use Rattle.frame.specs.Family.{sapr}
 use Rattle.frame.specs.Frame.{fixed, variable, Verdict, refused, sound}
 use Rattle.frame.specs.Controls.{offered}
-use Rattle.fields.specs.declared.IdentityFound.{IdentityFound}
-use Rattle.fields.specs.declared.IdentityFound.TheVariants.{Is, Nothing}
 use Rattle.fields.specs.Answers.{identity_found}
 use Rattle.collector.specs.declared.Collector.{Collector}
 use Rattle.collector.specs.Collecting.{verdict_of}
 use Rattle.card.specs.declared.Finding.{Finding}
 use Rattle.card.specs.declared.Finding.TheVariants.{Faulty, OtherLink, NotOffered, Asks}
 use Rattle.card.specs.declared.Examined.{Examined}
+use Rattle.fields.specs.declared.Identity.{Identity}
+use Rattle.frame.specs.declared.Service.{Service}
 
 -- where there is no frame to be answered: no user octets
 abbrev pub no_frame : Finding → Examined
 no_frame finding = record { finding = finding; user = kept_of [] }
 
 -- whether a frame has the link address of an image; an image without a first record has none
-abbrev pub is_link : IdentityFound → LinkAddress → Bool
-is_link (Is identity) link = same_link identity.link link
-is_link Nothing link = false
+abbrev pub is_link : Option Identity → LinkAddress → Bool
+is_link (Some identity) link = same_link identity.link link
+is_link None link = false
 
 -- 6 control field not offered; else what the frame asks, with its user octets
-abbrev pub heard : Asked → List ℕ → Examined
-heard asked.NotOffered user = no_frame NotOffered
-heard (asked.Is service) user = record { finding = Asks service; user = kept_of user }
+abbrev pub heard : Option Service → List ℕ → Examined
+heard None user = no_frame NotOffered
+heard (Some service) user = record { finding = Asks service; user = kept_of user }
 
 -- 5 other link address
 unfoldable pub examined_frame : List ℕ → Form → ℕ → LinkAddress → List ℕ → Examined

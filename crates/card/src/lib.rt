@@ -16,8 +16,7 @@ ghost use Rattle.card.specs.Gap.{refusal, after_answer, after_examining, gapped,
 use address::LinkAddress;
 use collector::Collector;
 use deeds::Order;
-use fields::IdentityFound;
-use frame::{Asked, Control, Fault, Form, Judged, Reply, Service, Written};
+use frame::{Control, Fault, Form, Judged, Reply, Service, Written};
 use link::{Answered, Link, Sends};
 use octets::Kept;
 use profile::Character;
@@ -125,16 +124,16 @@ fn examine_frame(image: &[u8], form: Form, control: u8, link: LinkAddress, user:
     found(Finding::OtherLink)
 }
 
-fn hear(asked: Asked, user: &[u8]) -> Examined
+fn hear(asked: Option<Service>, user: &[u8]) -> Examined
     requires { length user.now ≤ 252 }
     ensures { result ≡ heard asked user.now }
 {
     match asked {
-        Asked::Is(service) => Examined {
+        Some(service) => Examined {
             finding: Finding::Asks(service),
             user: Kept::new().with(user),
         },
-        Asked::NotOffered => found(Finding::NotOffered),
+        None => found(Finding::NotOffered),
     }
 }
 
@@ -143,11 +142,11 @@ fn is_link(image: &[u8], link: LinkAddress) -> bool
     ensures { result ≡ is_link (identity_found image.now) link }
 {
     match fields::identity_of(image) {
-        IdentityFound::Is(identity) => {
+        Some(identity) => {
             let own = identity.link;
             own.is(link)
         }
-        IdentityFound::Nothing => false,
+        None => false,
     }
 }
 

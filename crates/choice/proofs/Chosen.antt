@@ -1,18 +1,19 @@
 -- The choice by keys is the choice by records; and what a walk over the places comes to, step by step.
 -- By the query's cases and the walk's steps. Assumes nothing.
+use Rattle.std.specs.Prelude.{slice_get, Option, Some, None, option_map}
+use Rattle.std.specs.List.{filter}
 use Prim.Native.Nat.{ℕ, zero, suc, ◌-◌, ◌≤◌, ◌<◌}
 use mathlib.Core.Bool.{Bool, true, false, ◌&&◌}
-use mathlib.Core.List.{List}
+use mathlib.Core.List.{List, [], ◌∷◌}
 use mathlib.Core.Path.{◌≡◌, refl, ap, sym, ◌∙◌}
 use native.Mathlib.Omega.{arith}
 use borrow.Author.Tests.{eqb-true, eqb-false, ne_eqb}
 use lib.Dec.{eqb}
 use lib.ListN.{length}
-use Rattle.octets.proofs.Choice.{either}
-use Rattle.records.specs.Records.{kind_of, whole_at, record_at, records_from, kind_at, place_after}
-use Rattle.records.specs.Said.{keep, how_many}
-use Rattle.records.proofs.Records.{after_later, after_within}
-use Rattle.records.proofs.Said.{places_end, places_hit, places_pass}
+use Rattle.octets.proofs.Choice.{either, if_both}
+use Rattle.records.specs.Records.{kind_of, whole_at, record_at, records_from, kind_at}
+use Rattle.records.specs.Said.{keep, how_many, places_of, places_behind}
+use Rattle.records.proofs.Records.{after_later, after_within, after_whole}
 use Rattle.records.proofs.Places.{Lie, lie, none, one, as_many_places}
 use Rattle.fields.specs.declared.Key.{Key}
 use Rattle.fields.specs.working.Key.{key_of, key_at, key_as}
@@ -21,7 +22,6 @@ use Rattle.fields.proofs.Parts.{key_kind, key_4, key_5, key_whole, key_at_kind, 
 use Rattle.choice.specs.declared.Span.{Span}
 use Rattle.choice.specs.declared.Query.{Query}
 use Rattle.choice.specs.declared.Query.TheVariants.{Reading, Event}
-use Rattle.choice.specs.declared.Found.TheVariants.{At, Nothing}
 use Rattle.choice.specs.Choice.{in_span, chosen, choice}
 use Rattle.choice.specs.Calls.{places_from, nth_place}
 use Rattle.choice.specs.working.Keys.{key_in_span, key_chosen}
@@ -54,26 +54,30 @@ as_kind kind some s at span k e = by_test (eqb (kind_at s at) kind) refl
     by_test true t = rw (e, key_as_law s at kind (eqb-true _ _ t))
     by_test false t = rw (e, key_not_as s at kind (eqb-false _ _ t), key_at_kind s at, t, ne_eqb 0 kind (λ z. omega arith))
 
--- the n-th of the places from a place on, as a walk comes to it
-module _ (query : Query) (s : List ℕ) (at : ℕ) where
-  pub walk_end : (n : ℕ) → whole_at s at ≡ false → Nothing ≡ nth_place n (places_from query s at)
-  unfolding places_from nth_place
-  walk_end n e = sym (rw (places_end (chosen query) s at e))
+-- the n-th place is the list's n-th
+nth_got : (n : ℕ) (ps : List ℕ) → slice_get ps n ≡ nth_place n ps
+unfolding nth_place
+nth_got n [] = refl
+nth_got zero (p ∷ ps) = refl
+nth_got (suc n) (p ∷ ps) = nth_got n ps
 
-  pub walk_here : (n : ℕ) → whole_at s at ≡ true → chosen query (record_at s at) ≡ true → n ≡ 0 → At at ≡ nth_place n (places_from query s at)
-  unfolding places_from nth_place
-  walk_here n e p z = sym (rw (z, places_hit (chosen query) s at e p))
+pub as_got : (found : Option ℕ) → found ≡ option_map (λ at. at) found
+as_got (Some at) = refl
+as_got None = refl
 
-  pub walk_skip : (n : ℕ) → whole_at s at ≡ true → chosen query (record_at s at) ≡ true → (n ≡ 0 → ⊥)
-      → nth_place (n - 1) (places_from query s (place_after s at)) ≡ nth_place n (places_from query s at)
-  unfolding places_from nth_place
-  walk_skip zero e p n = absurd (n refl)
-  walk_skip (suc m) e p n = let one : suc m - 1 ≡ m = omega arith in rw (places_hit (chosen query) s at e p, one)
+-- of the places of all records those at which a chosen key stands are the places of the chosen
+filtered : {s : List ℕ} {at : ℕ} {rs : List (List ℕ)} (query : Query) → Lie s at rs
+    → filter (λ p. key_chosen query (key_at s p)) (places_of (λ r. true) at rs) ≡ places_of (chosen query) at rs
+unfolding places_of
+filtered query (none e) = refl
+filtered {s} {at} query (one {rs = rs} e l) =
+    rw (key_whole s at e, chosen_key query (record_at s at), ← (after_whole s at e))
+    (if_both (λ (ps qs : List ℕ). ps ≡ qs) (chosen query (record_at s at)) (λ t. ap (at ∷◌) (filtered query l)) (λ t. filtered query l))
 
-  pub walk_pass : (n : ℕ) → whole_at s at ≡ true → chosen query (record_at s at) ≡ false
-      → nth_place n (places_from query s (place_after s at)) ≡ nth_place n (places_from query s at)
-  unfolding places_from
-  walk_pass n e p = rw (places_pass (chosen query) s at e p)
+pub nth_filtered : (query : Query) (s : List ℕ) (at n : ℕ)
+    → slice_get (filter (λ p. key_chosen query (key_at s p)) (places_behind s at)) n ≡ nth_place n (places_from query s at)
+unfolding places_behind places_from
+nth_filtered query s at n = rw (filtered query (lie s at)) (nth_got n (places_of (chosen query) at (records_from s at)))
 
 -- there are as many places as chosen records, and no more than octets
 pub number_all : (query : Query) (s : List ℕ) → length (places_from query s 1) ≡ length (choice query s)

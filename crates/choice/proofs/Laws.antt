@@ -1,5 +1,6 @@
 -- What callers use of a choice: what is found is the n-th chosen and has its room, a caller goes on from the place after it, other points'
 -- records do not matter, and a range splits at any instant. By recursion on the records. Assumes nothing.
+use Rattle.std.specs.Prelude.{Some, None}
 use Prim.Native.Nat.{ℕ, zero, suc, ◌+◌, ◌≤◌, ◌<◌}
 use mathlib.Core.Bool.{Bool, true, false}
 use mathlib.Core.List.{List, [], ◌∷◌}
@@ -22,18 +23,17 @@ use Rattle.fields.proofs.Answers.{value_same, event-same}
 use Rattle.choice.specs.declared.Span.{Span}
 use Rattle.choice.specs.declared.Query.{Query}
 use Rattle.choice.specs.declared.Query.TheVariants.{Reading, Event}
-use Rattle.choice.specs.declared.Found.TheVariants.{At, Nothing}
 use Rattle.choice.specs.Choice.{in_span, chosen, choice, readings_of}
 use Rattle.choice.specs.Calls.{places_from, nth_place}
 
 -- the n-th of a list, or that it has no more
-at_nth : (n : ℕ) (ps : List ℕ) (p : ℕ) → nth_place n ps ≡ At p → (n < length ps) × (get_or ps n 0 ≡ p)
+at_nth : (n : ℕ) (ps : List ℕ) (p : ℕ) → nth_place n ps ≡ Some p → (n < length ps) × (get_or ps n 0 ≡ p)
 unfolding nth_place
 at_nth n [] p e = let z : ◌≡◌ {A = ℕ} 0 1 = cc in absurd (omega arith)
 at_nth zero (q ∷ ps) p e = (omega arith, cc)
 at_nth (suc n) (q ∷ ps) p e = let rest = at_nth n ps p e in (omega arith, rest.1)
 
-pub nothing_nth : (n : ℕ) (ps : List ℕ) → nth_place n ps ≡ Nothing → length ps ≤ n
+pub nothing_nth : (n : ℕ) (ps : List ℕ) → nth_place n ps ≡ None → length ps ≤ n
 unfolding nth_place
 nothing_nth n [] e = omega arith
 nothing_nth zero (q ∷ ps) e = let z : ◌≡◌ {A = ℕ} 0 1 = cc in absurd (omega arith)
@@ -47,7 +47,7 @@ pub record FoundThere (query : Query) (image : List ℕ) (from n at : ℕ) : Typ
   pub counted : n < how_many (chosen query) (records_from image from)
   pub room : at + 2 + length_of (kind_of (record_at image at)) ≤ length image
 
-pub found_there : (query : Query) (image : List ℕ) (from n at : ℕ) → nth_place n (places_from query image from) ≡ At at → FoundThere query image from n at
+pub found_there : (query : Query) (image : List ℕ) (from n at : ℕ) → nth_place n (places_from query image from) ≡ Some at → FoundThere query image from n at
 unfolding places_from
 found_there query image from n at e =
     let f = chosen query in
@@ -64,7 +64,7 @@ found_there query image from n at e =
     }
 
 -- a caller goes on from the place after: the next there is the one after the n-th
-follow : {image : List ℕ} {from : ℕ} {rs : List (List ℕ)} (f : List ℕ → Bool) (at : ℕ) → Lie image from rs → (n : ℕ) → nth_place n (places_of f from rs) ≡ At at
+follow : {image : List ℕ} {from : ℕ} {rs : List (List ℕ)} (f : List ℕ → Bool) (at : ℕ) → Lie image from rs → (n : ℕ) → nth_place n (places_of f from rs) ≡ Some at
     → nth_place 0 (places_of f (place_after image at) (records_from image (place_after image at))) ≡ nth_place (suc n) (places_of f from rs)
 unfolding places_of nth_place
 follow f at (none e) n p = let z : ◌≡◌ {A = ℕ} 0 1 = cc in absurd (omega arith)
@@ -73,8 +73,8 @@ follow {image} {from} f at (one {rs = rs} e l) n p = by_test (λ m q. rw (after_
     rest : List ℕ
     rest = places_of f (from + length (record_at image from)) rs
 
-    by_test : ((m : ℕ) → nth_place m rest ≡ At at → nth_place 0 (places_of f (place_after image at) (records_from image (place_after image at))) ≡ nth_place (suc m) rest)
-        → (t : Bool) (n : ℕ) → nth_place n (when t then from ∷ rest else rest) ≡ At at
+    by_test : ((m : ℕ) → nth_place m rest ≡ Some at → nth_place 0 (places_of f (place_after image at) (records_from image (place_after image at))) ≡ nth_place (suc m) rest)
+        → (t : Bool) (n : ℕ) → nth_place n (when t then from ∷ rest else rest) ≡ Some at
         → nth_place 0 (places_of f (place_after image at) (records_from image (place_after image at))) ≡ nth_place (suc n) (when t then from ∷ rest else rest)
     by_test go true zero p =
         let same : at ≡ from = cc in
@@ -82,7 +82,7 @@ follow {image} {from} f at (one {rs = rs} e l) n p = by_test (λ m q. rw (after_
     by_test go true (suc n) p = go n p
     by_test go false n p = go n p
 
-pub goes_on : (query : Query) (image : List ℕ) (from n at : ℕ) → nth_place n (places_from query image from) ≡ At at
+pub goes_on : (query : Query) (image : List ℕ) (from n at : ℕ) → nth_place n (places_from query image from) ≡ Some at
     → nth_place 0 (places_from query image (place_after image at)) ≡ nth_place (suc n) (places_from query image from)
 unfolding places_from
 goes_on query image from n at e = follow (chosen query) at (lie image from) n e
@@ -115,7 +115,7 @@ others_dropped query point so image image' e = rw e (keep_within (chosen query) 
 -- what is found depends on the chosen records only: where two images have the same, the n-th of each has the same octets, so each value
 -- and each event is answered alike
 module _ (query : Query) (image image' : List ℕ) (same : choice query image ≡ choice query image') (n at at' : ℕ)
-    (found : nth_place n (places_from query image 1) ≡ At at) (found' : nth_place n (places_from query image' 1) ≡ At at') where
+    (found : nth_place n (places_from query image 1) ≡ Some at) (found' : nth_place n (places_from query image' 1) ≡ Some at') where
   pub same_record : record_at image at ≡ record_at image' at'
   unfolding choice records_of
   same_record =

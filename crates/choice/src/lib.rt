@@ -8,6 +8,7 @@ ghost use Rattle.choice.specs.working.Keys.{key_in_span, key_chosen};
 
 use address::PointAddress;
 use fields::Key;
+use records::PlacesFrom;
 
 // The records of a point and record address with an instant from first to last, both in.
 #[derive(Clone, Copy)]
@@ -25,35 +26,21 @@ pub enum Query {
     Event(Span),
 }
 
-#[derive(Clone, Copy)]
-pub enum Found {
-    At(usize),
-    Nothing,
-}
-
 fn in_time(span: Span, time: i64) -> bool
     ensures { result ≡ (le_z span.first time && le_z time span.last) }
 {
-    if span.first <= time {
-        return time <= span.last;
-    }
-    false
+    span.first <= time && time <= span.last
 }
 
 // Whether a key is of a kind, and lies in a span.
+#[tactic(auto, unfolding(crate::specs::working::Keys::key_in_span))]
 fn in_span(kind: u8, span: Span, key: Key) -> bool
     ensures { result ≡ (eqb key.kind kind && key_in_span span key) }
 {
-    if key.kind != kind {
-        return false;
-    }
-    if key.point.0 != span.point.0 {
-        return false;
-    }
-    if key.record_address != span.record_address {
-        return false;
-    }
-    in_time(span, key.label.a.instant())
+    key.kind == kind
+        && key.point.0 == span.point.0
+        && key.record_address == span.record_address
+        && in_time(span, key.label.a.instant())
 }
 
 // Reads no more of the record at a place than the query asks for.
@@ -67,35 +54,26 @@ fn is_chosen(query: Query, image: &[u8], at: usize) -> bool
 }
 
 // The one walk: n of the chosen among the records from a place on are passed, and the one behind them is found.
-fn walk(image: &[u8], query: Query, from: usize, n: usize) -> Found
+fn walk(image: &[u8], query: Query, from: usize, n: usize) -> Option<usize>
     ensures { result ≡ nth_place n (places_from query image.now from) }
 {
-    let mut at = from;
-    let mut left = n;
-    let mut next = records::after(image, at);
-    while at < next {
-        let here = at;
-        at = next;
-        next = records::after(image, at);
-        if is_chosen(query, image, here) {
-            if left == 0 {
-                return Found::At(here);
-            }
-            left -= 1;
-        }
+    PlacesFrom {
+        octets: image,
+        at: from,
     }
-    Found::Nothing
+    .filter(|at| is_chosen(query, image, *at))
+    .nth(n)
 }
 
 // The place of the n-th chosen record, counted from 0.
-pub fn find(image: &[u8], query: Query, n: usize) -> Found
+pub fn find(image: &[u8], query: Query, n: usize) -> Option<usize>
     ensures { result ≡ nth_place n (places_from query image.now 1) }
 {
     walk(image, query, 1, n)
 }
 
 // The place of the first chosen among the records from a place on, so that a caller goes on from the place after the last one.
-pub fn next(image: &[u8], query: Query, from: usize) -> Found
+pub fn next(image: &[u8], query: Query, from: usize) -> Option<usize>
     ensures { result ≡ nth_place 0 (places_from query image.now from) }
 {
     walk(image, query, from, 0)

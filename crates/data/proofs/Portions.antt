@@ -1,5 +1,6 @@
 -- What is given next, as the code comes to it: the chosen that are left from a found place on, one reading of them, or events one by one.
 -- By the laws of the choice. Assumes nothing.
+use Rattle.std.specs.Prelude.{Option, Some, None}
 use Prim.Native.Nat.{ℕ, suc, ◌+◌, ◌≤◌, ◌<◌}
 use mathlib.Core.Bool.{true, false}
 use mathlib.Core.List.{List, [], ◌∷◌, ◌++◌, append_assoc, append-nil}
@@ -17,8 +18,6 @@ use Rattle.fields.specs.Answers.{records_of}
 use Rattle.choice.specs.declared.Span.{Span}
 use Rattle.choice.specs.declared.Query.{Query}
 use Rattle.choice.specs.declared.Query.TheVariants.{Reading, Event}
-use Rattle.choice.specs.declared.Found.{Found}
-use Rattle.choice.specs.declared.Found.TheVariants.{At, Nothing}
 use Rattle.choice.specs.Choice.{chosen, choice}
 use Rattle.choice.specs.Calls.{places_from, nth_place}
 use Rattle.choice.proofs.Chosen.{number_all}
@@ -37,32 +36,32 @@ use Rattle.data.proofs.Written.{with_more, header_and}
 
 -- the chosen that are left: the one found and those behind it, or none
 module _ (query : Query) (image : List ℕ) (n : ℕ) where
-  left_some : (at : ℕ) → nth_place n (places_from query image 1) ≡ At at
+  left_some : (at : ℕ) → nth_place n (places_from query image 1) ≡ Some at
       → drop n (choice query image) ≡ record_at image at ∷ drop (suc n) (choice query image)
   unfolding choice records_of how_many
   left_some at e =
       let f = found_there query image 1 n at e in
       drop-cons (choice query image) n [] f.counted ∙ ap (λ (r : List ℕ). r ∷ drop (suc n) (choice query image)) f.nth_chosen
 
-  left_none : nth_place n (places_from query image 1) ≡ Nothing → drop n (choice query image) ≡ []
+  left_none : nth_place n (places_from query image 1) ≡ None → drop n (choice query image) ≡ []
   left_none e =
       let past : length (choice query image) ≤ n = omega (arith, nothing_nth n (places_from query image 1) e, number_all query image) in
       drop_of_length-le (choice query image) past
 
   -- what is found is of the kind that was looked for
   kind_found : (at kind : ℕ) → (chosen query (record_at image at) ≡ true → is_kind kind (record_at image at) ≡ true)
-      → nth_place n (places_from query image 1) ≡ At at → kind_at image at ≡ kind
+      → nth_place n (places_from query image 1) ≡ Some at → kind_at image at ≡ kind
   kind_found at kind so e =
       let f = found_there query image 1 n at e in
       let w = f.whole_there in
       kind_whole image at w ∙ sym (kind_there image at w) ∙ eqb-true (kind_of (record_at image at)) kind (so f.is_chosen)
 
 module _ (span : Span) (image : List ℕ) (n at : ℕ) where
-  pub reading_found : nth_place n (places_from (Reading span) image 1) ≡ At at → kind_at image at ≡ 4
+  pub reading_found : nth_place n (places_from (Reading span) image 1) ≡ Some at → kind_at image at ≡ 4
   unfolding chosen
   reading_found = kind_found (Reading span) image n at 4 (and_left _ _)
 
-  pub event_found_law : nth_place n (places_from (Event span) image 1) ≡ At at → kind_at image at ≡ 5
+  pub event_found_law : nth_place n (places_from (Event span) image 1) ≡ Some at → kind_at image at ≡ 5
   unfolding chosen
   event_found_law = kind_found (Event span) image n at 5 (and_left _ _)
 
@@ -77,12 +76,12 @@ module _ (type : ℕ) (span : Span) (objects : ObjectRange) (image : List ℕ) (
   unfolding next_reading
   not_offered o g = rw o g
 
-  module _ (o : objects_offered objects ≡ true) {found : Found} (f : found ≡ nth_place before (places_from (Reading span) image 1)) where
-    pub no_reading : {given : Portion} → found ≡ Nothing → given ≡ portion [] 0 → given ≡ next_reading type span objects image before
+  module _ (o : objects_offered objects ≡ true) {found : Option ℕ} (f : found ≡ nth_place before (places_from (Reading span) image 1)) where
+    pub no_reading : {given : Portion} → found ≡ None → given ≡ portion [] 0 → given ≡ next_reading type span objects image before
     unfolding next_reading reading_portion
     no_reading e g = rw (o, left_none (Reading span) image before (sym f ∙ e)) g
 
-    pub some_reading : {m : Kept} (at : ℕ) → found ≡ At at → m ≡ kept_of (reading_reply type span.point span.record_address objects (record_at image at))
+    pub some_reading : {m : Kept} (at : ℕ) → found ≡ Some at → m ≡ kept_of (reading_reply type span.point span.record_address objects (record_at image at))
         → record { message = m; many = 1 } ≡ next_reading type span objects image before
     unfolding next_reading reading_portion portion
     some_reading at e g = rw (o, left_some (Reading span) image before at (sym f ∙ e), g)
@@ -98,27 +97,27 @@ abbrev pub gathered_of : List (List ℕ) → Portion
 gathered_of rs = portion (events_octets (take 27 rs)) (length (take 27 rs))
 
 -- so many of them are gathered, and where the next is
-pub record Gathered (query : Query) (image : List ℕ) (before : ℕ) (message : Kept) (many : ℕ) (found : Found) : Type 0 where
+pub record Gathered (query : Query) (image : List ℕ) (before : ℕ) (message : Kept) (many : ℕ) (found : Option ℕ) : Type 0 where
   pub octets : message ≡ kept_of (events_octets (take many (drop before (choice query image))))
   pub number : length (take many (drop before (choice query image))) ≡ many
   pub next : found ≡ nth_place (before + many) (places_from query image 1)
 
 module _ (query : Query) (image : List ℕ) (before : ℕ) where
-  pub none_yet : {message : Kept} {found : Found} → message ≡ kept_of [] → found ≡ nth_place before (places_from query image 1)
+  pub none_yet : {message : Kept} {found : Option ℕ} → message ≡ kept_of [] → found ≡ nth_place before (places_from query image 1)
       → Gathered query image before message 0 found
   unfolding events_octets
   none_yet e f =
       let here : before + 0 ≡ before = omega arith in
       record { octets = e; number = refl; next = rw here f }
 
-  pub one_more : (many at : ℕ) {message message' : Kept} {found found' : Found} {part : List ℕ} {after : ℕ} → many < 27
-      → Gathered query image before message many found → found ≡ At at → message' ≡ added message part
+  pub one_more : (many at : ℕ) {message message' : Kept} {found found' : Option ℕ} {part : List ℕ} {after : ℕ} → many < 27
+      → Gathered query image before message many found → found ≡ Some at → message' ≡ added message part
       → part ≡ event_octets (record_at image at) → after ≡ place_after image at → found' ≡ nth_place 0 (places_from query image after)
       → Gathered query image before message' (many + 1) found'
   unfolding events_octets
   one_more many at few g e f p a n =
       let rs : List (List ℕ) = take many (drop before (choice query image)) in
-      let place : nth_place (before + many) (places_from query image 1) ≡ At at = sym g.next ∙ e in
+      let place : nth_place (before + many) (places_from query image 1) ≡ Some at = sym g.next ∙ e in
       let more : take (many + 1) (drop before (choice query image)) ≡ rs ++ (record_at image at ∷ []) =
       take-add many 1 (drop before (choice query image)) ∙ rw (drop-drop many before (choice query image), left_some query image (before + many) at place) in
       let further : before + (many + 1) ≡ suc (before + many) = omega arith in
@@ -132,13 +131,13 @@ module _ (query : Query) (image : List ℕ) (before : ℕ) where
       }
 
   -- and when no more are taken
-  all_gathered : (many : ℕ) {message : Kept} {found : Found} → Gathered query image before message many found
+  all_gathered : (many : ℕ) {message : Kept} {found : Option ℕ} → Gathered query image before message many found
       → take many (drop before (choice query image)) ≡ take 27 (drop before (choice query image))
       → record { message = message; many = many } ≡ gathered_of (drop before (choice query image))
   unfolding portion
   all_gathered many g e = rw (← e) (ap₂ (λ (m : Kept) (n : ℕ). record { message = m; many = n }) g.octets (sym g.number))
 
-  pub none_left : (many : ℕ) {message : Kept} {found : Found} → many ≤ 27 → Gathered query image before message many found → found ≡ Nothing
+  pub none_left : (many : ℕ) {message : Kept} {found : Option ℕ} → many ≤ 27 → Gathered query image before message many found → found ≡ None
       → record { message = message; many = many } ≡ gathered_of (drop before (choice query image))
   none_left many few g e =
       let rs : List (List ℕ) = drop before (choice query image) in
@@ -146,7 +145,7 @@ module _ (query : Query) (image : List ℕ) (before : ℕ) where
       let past : length rs ≤ many = omega (arith, sym (length-drop many rs) ∙ ap length none) in
       all_gathered many g (take_all many rs past ∙ sym (take_all 27 rs (omega arith)))
 
-  pub as_many_as_fit : (many : ℕ) {message : Kept} {found : Found} → many ≡ 27 → Gathered query image before message many found
+  pub as_many_as_fit : (many : ℕ) {message : Kept} {found : Option ℕ} → many ≡ 27 → Gathered query image before message many found
       → record { message = message; many = many } ≡ gathered_of (drop before (choice query image))
   as_many_as_fit many e g = all_gathered many g (rw e)
 

@@ -1,5 +1,6 @@
 -- Messages as the code writes them, part after part: header, objects, label; and an object's and an event's octets as they are answered.
 -- By the law of adding octets to a message. Assumes nothing.
+use Rattle.std.specs.Prelude.{Option, Some, None}
 use Prim.Native.Nat.{ℕ, zero, suc, ◌+◌, ◌-◌, ◌≤◌}
 use mathlib.Core.List.{List, [], ◌∷◌, ◌++◌, append_assoc, append-nil}
 use mathlib.Core.Path.{◌≡◌, ap, ap₂, ◌∙◌}
@@ -13,11 +14,7 @@ use Rattle.records.specs.Records.{record_at, kind_at}
 use Rattle.records.proofs.Records.{kind_facts}
 use Rattle.fields.specs.declared.Key.{Key}
 use Rattle.fields.specs.declared.Value.{Value}
-use Rattle.fields.specs.declared.ValueFound.{ValueFound}
-use Rattle.fields.specs.declared.ValueFound.TheVariants as value
 use Rattle.fields.specs.declared.Event.{Event}
-use Rattle.fields.specs.declared.EventFound.{EventFound}
-use Rattle.fields.specs.declared.EventFound.TheVariants as event
 use Rattle.fields.specs.Parts.{reading_label, value_of, quality_of, spa_of, spq_of, event_label}
 use Rattle.fields.specs.working.Key.{key_at}
 use Rattle.fields.specs.Calls.{value_found, event_found}
@@ -106,29 +103,29 @@ label_of_key image at kind e f =
     f ∙ ap (λ (k : Key). label_a_octets k.label.a) (e ∙ key_whole image at o.whole_there ∙ key_4 (record_at image at) o.of_kind)
 
 -- an object and an event as they are answered at a place of their kind
-module _ (object : ℕ) (image : List ℕ) (at : ℕ) (k : kind_at image at ≡ 4) (least : 1 ≤ object) (most : object ≤ 6) {answer : ValueFound} (e : answer ≡ value_found object image at) where
-  value_there : answer ≡ value.Is (record { value = value_of object (record_at image at); quality = quality_of object (record_at image at) })
+module _ (object : ℕ) (image : List ℕ) (at : ℕ) (k : kind_at image at ≡ 4) (least : 1 ≤ object) (most : object ≤ 6) {answer : Option Value} (e : answer ≡ value_found object image at) where
+  value_there : answer ≡ Some (record { value = value_of object (record_at image at); quality = quality_of object (record_at image at) })
   unfolding value_found
   value_there = e ∙ rw (k, le-leb 1 object least, le-leb object 6 most)
 
-  pub value_not_missing : answer ≡ value.Nothing → ⊥
+  pub value_not_missing : answer ≡ None → ⊥
   value_not_missing f = let z : ◌≡◌ {A = ℕ} 0 1 = cc value_there in omega arith
 
-  pub object_of_value : {v : Value} → answer ≡ value.Is v → object ∷ (low_octets 4 (unsigned v.value) ++ (v.quality ∷ [])) ≡ object_octets object (record_at image at)
+  pub object_of_value : {v : Value} → answer ≡ Some v → object ∷ (low_octets 4 (unsigned v.value) ++ (v.quality ∷ [])) ≡ object_octets object (record_at image at)
   unfolding object_octets
   object_of_value {v} f =
       let same : v ≡ record { value = value_of object (record_at image at); quality = quality_of object (record_at image at) } = cc value_there in
       rw same
 
-module _ (image : List ℕ) (at : ℕ) (k : kind_at image at ≡ 5) {answer : EventFound} (e : answer ≡ event_found image at) where
-  event_there : answer ≡ event.Is (record { spa = spa_of (record_at image at); spq = spq_of (record_at image at); label = event_label (record_at image at) })
+module _ (image : List ℕ) (at : ℕ) (k : kind_at image at ≡ 5) {answer : Option Event} (e : answer ≡ event_found image at) where
+  event_there : answer ≡ Some (record { spa = spa_of (record_at image at); spq = spq_of (record_at image at); label = event_label (record_at image at) })
   unfolding event_found
   event_there = e ∙ rw k
 
-  pub event_not_missing : answer ≡ event.Nothing → ⊥
+  pub event_not_missing : answer ≡ None → ⊥
   event_not_missing f = let z : ◌≡◌ {A = ℕ} 0 1 = cc event_there in omega arith
 
-  pub octets_of_event : {v : Event} → answer ≡ event.Is v → v.spa ∷ v.spq ∷ label_b_octets v.label ≡ event_octets (record_at image at)
+  pub octets_of_event : {v : Event} → answer ≡ Some v → v.spa ∷ v.spq ∷ label_b_octets v.label ≡ event_octets (record_at image at)
   unfolding event_octets
   octets_of_event {v} f =
       let same : v ≡ record { spa = spa_of (record_at image at); spq = spq_of (record_at image at); label = event_label (record_at image at) } = cc event_there in

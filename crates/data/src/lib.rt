@@ -11,8 +11,8 @@ ghost use Rattle.data.specs.Messages.{reply_header, identity_reply, clock_reply,
 ghost use Rattle.data.specs.Portions.{portion, next_reading, next_events};
 
 use address::PointAddress;
-use choice::{Found, Query, Span};
-use fields::{Dates, EventFound, Identity, ValueFound};
+use choice::{Query, Span};
+use fields::{Dates, Identity};
 use message::{Header, ObjectRange};
 use octets::Kept;
 
@@ -71,7 +71,7 @@ fn object_octets(image: &[u8], at: usize, object: u8) -> [u8; 6]
     requires object_bound { object ≤ 6 }
     ensures { result ≡ object_octets object (record_at image.now at) }
 {
-    let ValueFound::Is(found) = fields::value_at(image, at, object) else {
+    let Some(found) = fields::value_at(image, at, object) else {
         return [0; 6];
     };
     let value = octets::low_octets_4(octets::unsigned(found.value));
@@ -127,7 +127,7 @@ pub fn reading(
     ensures { result ≡ next_reading type_id span objects image.now before }
 {
     if objects.are_offered() {
-        let Found::At(at) = choice::find(image, Query::Reading(span), before) else {
+        let Some(at) = choice::find(image, Query::Reading(span), before) else {
             return none();
         };
         return Portion {
@@ -143,7 +143,7 @@ fn event_octets(image: &[u8], at: usize) -> [u8; 9]
     requires { kind_at image.now at ≡ 5 }
     ensures { result ≡ event_octets (record_at image.now at) }
 {
-    let EventFound::Is(event) = fields::event_at(image, at) else {
+    let Some(event) = fields::event_at(image, at) else {
         return [0; 9];
     };
     let label = event.label.octets();
@@ -161,7 +161,7 @@ fn gathered(image: &[u8], span: Span, before: usize) -> Portion
     let mut many = 0;
     let mut found = choice::find(image, query, before);
     while many < 27 {
-        let Found::At(at) = found else {
+        let Some(at) = found else {
             return Portion { message, many };
         };
         let octets = event_octets(image, at);

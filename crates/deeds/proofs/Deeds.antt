@@ -1,5 +1,6 @@
 -- The time octets of an order are those behind the header of its message; which message does what; and what a refusal leaves.
 -- By the labels written again, row by row, and by what a rule does. Assumes nothing.
+use Rattle.std.specs.Prelude.{Option, Some, None}
 use Prim.Native.Nat.{ℕ, ◌+◌, ◌≤◌}
 use mathlib.Core.Bool.{Bool, true, not, ◌||◌}
 use mathlib.Core.List.{List, ◌++◌}
@@ -16,8 +17,6 @@ use Rattle.message.specs.declared.Deed.{Deed}
 use Rattle.message.specs.declared.Deed.TheVariants.{Refused, ShutOut, Opens, Closes, SetsClock, SetsDates}
 use Rattle.message.specs.declared.Request.{Request}
 use Rattle.message.specs.declared.Row.{Row}
-use Rattle.message.specs.declared.RowFound.{RowFound}
-use Rattle.message.specs.declared.RowFound.TheVariants as row
 use Rattle.message.specs.Requests.{asks_readings, request_of}
 use Rattle.message.specs.Table.{table, row_in}
 use Rattle.message.specs.contracts.Deed.{the_type}
@@ -51,7 +50,7 @@ order_one = determined time_octets by_octets octets_back
 -- the time octets of an accepted message: all that stands behind the header of a 181 and of a 186
 module _ (session : Session) (image clock m : List ℕ) (first : decide session image clock (request_of m) ≡ Accepted) where
   -- as many octets as its row says
-  octets_listed : (w : Row) → row_in table (request_of m).header.type_id ≡ row.Is w → length m ≡ w.octets
+  octets_listed : (w : Row) → row_in table (request_of m).header.type_id ≡ Some w → length m ≡ w.octets
   unfolding request_of
   octets_listed w found = accepted_octets session image clock (request_of m) first w found
 
@@ -88,13 +87,13 @@ deed_accepted rule its deed late = of_ruled (ruled rule its)
     of_ruled (refuses small) e = absurd (not_so late (omega arith) e)
 
 -- what a row says, and what a message does by a rule
-abbrev said_by : RowFound → Deed
-said_by (row.Is w) = w.deed
-said_by row.Nothing = Refused
+abbrev said_by : Option Row → Deed
+said_by (Some w) = w.deed
+said_by None = Refused
 
-deed_said : (rule : Rule) (found : RowFound) → deed_of rule found ≡ deed_by rule (said_by found)
-deed_said rule (row.Is w) = refl
-deed_said rule row.Nothing = refl
+deed_said : (rule : Rule) (found : Option Row) → deed_of rule found ≡ deed_by rule (said_by found)
+deed_said rule (Some w) = refl
+deed_said rule None = refl
 
 -- such a deed is done by an accepted message of the type whose row says it
 pub deed_listed : (deed : Deed) (only : ℕ) → every (λ w. not (eqb (which w.deed) (which deed)) || eqb w.type_id only) table ≡ true → 2 ≤ which deed
@@ -140,7 +139,7 @@ module _ (rule : Rule) (type : ℕ) where
       of_ruled its other (refuses small) e = absurd (omega (arith, ap which e))
 
 -- a refusal waits as the mirror of its rule
-pub refused_mirror : (rule : Rule) (session : Session) (clock : List ℕ) (r : Request) (found : RowFound) → (rule ≡ Accepted → ⊥)
+pub refused_mirror : (rule : Rule) (session : Session) (clock : List ℕ) (r : Request) (found : Option Row) → (rule ≡ Accepted → ⊥)
     → (done_by rule session clock r (deed_of rule found)).waiting ≡ mirror_by rule
 refused_mirror rule session clock r found other = rw (deed_said rule found) (of_ruled (ruled rule (said_by found)) other)
   where
@@ -152,7 +151,7 @@ refused_mirror rule session clock r found other = rw (deed_said rule found) (of_
     of_ruled (refuses small) other = refl
 
 -- refused by another cause than 7 it leaves the session
-pub refused_session : (rule : Rule) (session : Session) (clock : List ℕ) (r : Request) (found : RowFound) → (cause_by rule ≡ 7 → ⊥)
+pub refused_session : (rule : Rule) (session : Session) (clock : List ℕ) (r : Request) (found : Option Row) → (cause_by rule ≡ 7 → ⊥)
     → (done_by rule session clock r (deed_of rule found)).session ≡ session
 refused_session rule session clock r found other = rw (deed_said rule found) (of_ruled (ruled rule (said_by found)) other)
   where

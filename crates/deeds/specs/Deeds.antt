@@ -1,6 +1,6 @@
 -- What a message does when it is carried out: the session, the order to the meter, what waits. Document 01, the table and "183: ..".
 -- Assumes nothing.
-use Rattle.std.specs.Prelude.{ℕ, Bool, true, false, List, [], ◌++◌, replicate}
+use Rattle.std.specs.Prelude.{ℕ, Bool, true, false, List, [], ◌++◌, replicate, Option, Some, None}
 use Rattle.octets.specs.Choice.{when◌then◌else◌}
 use Rattle.octets.specs.declared.Kept.{Kept}
 use Rattle.octets.specs.Keeping.{octets_of, kept_of}
@@ -8,8 +8,6 @@ use Rattle.label.specs.Label.{label_a_octets, label_b_octets}
 use Rattle.message.specs.declared.Deed.{Deed}
 use Rattle.message.specs.declared.Deed.TheVariants.{Refused, ShutOut, Opens, Closes, Gives71, Gives72, Gives131, GivesData, SetsClock, SetsDates}
 use Rattle.message.specs.declared.Request.{Request}
-use Rattle.message.specs.declared.RowFound.{RowFound}
-use Rattle.message.specs.declared.RowFound.TheVariants as row
 use Rattle.message.specs.Requests.{request_of}
 use Rattle.message.specs.Table.{table, row_in}
 use Rattle.rules.specs.declared.Rule.{Rule}
@@ -24,11 +22,12 @@ use Rattle.deeds.specs.declared.Order.TheVariants.{NoOrder, SetClock, SetDates}
 use Rattle.deeds.specs.declared.Pending.{Pending}
 use Rattle.deeds.specs.declared.Done.{Done}
 use Rattle.deeds.specs.declared.Carried.{Carried}
+use Rattle.message.specs.declared.Row.{Row}
 
 -- accepted, what its row says; by a wrong password, shut out; else refused
-abbrev pub deed_of : Rule → RowFound → Deed
-deed_of rule (row.Is w) = deed_by rule w.deed
-deed_of rule row.Nothing = deed_by rule Refused
+abbrev pub deed_of : Rule → Option Row → Deed
+deed_of rule (Some w) = deed_by rule w.deed
+deed_of rule None = deed_by rule Refused
 
 -- the mirror of a rule's cause and P/N
 abbrev pub mirror_by : Rule → Waiting

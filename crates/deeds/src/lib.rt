@@ -6,7 +6,7 @@ ghost use Rattle.message.specs.Table.{table, row_in};
 ghost use Rattle.deeds.specs.Deeds.{deed_of, mirror_by, leaving, ordering, done_by, carried_out, nothing_pending, is_waiting};
 
 use label::{LabelA, LabelB};
-use message::{Deed, Request, RowFound};
+use message::{Deed, Request};
 use octets::Kept;
 use rules::{Rule, Session};
 
@@ -66,11 +66,11 @@ fn deed_of(rule: Rule, type_id: u8) -> Deed
     ensures { result ≡ deed_of rule (row_in table type_id) }
 {
     match message::row_of(type_id) {
-        RowFound::Is(row) => {
+        Some(row) => {
             let deed = row.deed;
             rule.deed(deed)
         }
-        RowFound::Nothing => rule.deed(Deed::Refused),
+        None => rule.deed(Deed::Refused),
     }
 }
 

@@ -8,7 +8,7 @@ use address::PointAddress;
 use card::{Card, Gone};
 use deeds::Pending;
 use link::Link;
-use message::Request as Asked;
+use message::Request as Option<Service>;
 use profile::{Character, Profile};
 use rules::Session;
 use std::io::Stdout;
@@ -222,7 +222,7 @@ fn met(card: Card, lent: Lent, image: &[u8], message: &[u8]) -> Met {
     let session = link.session;
     let clock = lent.clock;
     if collector.length == 0 {
-        return Met::By(rules::decide(session, image, clock, Asked::read(message)));
+        return Met::By(rules::decide(session, image, clock, Option<Service>::read(message)));
     }
     Met::Unknown
 }

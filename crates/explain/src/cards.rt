@@ -5,7 +5,6 @@ use crate::{frames, voice, whys, words};
 use address::LinkAddress;
 use card::Card;
 use deeds::{Order, Waiting};
-use fields::IdentityFound;
 use frame::{Control, Reply, Service};
 use profile::{Character, Profile};
 use rules::{Rule, Session};
@@ -19,10 +18,10 @@ fn counted(service: u8, last: u8) -> u8 {
     service
 }
 
-fn link_of(found: IdentityFound) -> LinkAddress {
+fn link_of(found: Option<Identity>) -> LinkAddress {
     match found {
-        IdentityFound::Is(identity) => identity.link,
-        IdentityFound::Nothing => LinkAddress(0),
+        Some(identity) => identity.link,
+        None => LinkAddress(0),
     }
 }
 

@@ -3,7 +3,7 @@ ghost use Rattle.std.specs.Prelude.{◌<◌};
 
 use crate::{messages, voice, words};
 use address::LinkAddress;
-use frame::{Asked, Control, Form, Judged, Service};
+use frame::{Control, Form, Judged, Service};
 use std::io::Stdout;
 
 fn service(output: Stdout, service: Service) {
@@ -63,8 +63,8 @@ fn other(output: Stdout, form: Form, control: u8, named: bool) {
 
 fn control(output: Stdout, form: Form, control: u8, to: LinkAddress, named: bool) {
     match frame::service_of(form, control) {
-        Asked::Is(asked) => service(output, asked),
-        Asked::NotOffered => other(output, form, control, named),
+        Some(asked) => service(output, asked),
+        None => other(output, form, control, named),
     }
     words::link_address(output, to.0);
 }

@@ -3,7 +3,7 @@ ghost use Rattle.std.specs.Prelude.{◌<◌};
 
 use crate::{labels, messages, voice, words};
 use faults::{ImageFault, ImageRule};
-use fields::{DatesFound, IdentityFound, Key};
+use fields::Key;
 use label::LabelB;
 use std::io::Stdout;
 
@@ -75,9 +75,9 @@ fn goes_on(group: Group, next: Key) -> bool {
     key.record_address == next.record_address
 }
 
-fn identity(output: Stdout, found: IdentityFound) {
+fn identity(output: Stdout, found: Option<Identity>) {
     match found {
-        IdentityFound::Is(identity) => {
+        Some(identity) => {
             let link = identity.link;
             words::head(
                 output,
@@ -87,18 +87,18 @@ fn identity(output: Stdout, found: IdentityFound) {
                 identity.product,
             );
         }
-        IdentityFound::Nothing => {}
+        None => {}
     }
 }
 
-fn dates(output: Stdout, found: DatesFound) {
+fn dates(output: Stdout, found: Option<Dates>) {
     match found {
-        DatesFound::Is(dates) => {
+        Some(dates) => {
             let first = dates.first;
             let second = dates.second;
             messages::range(output, 2, 2, first, second);
         }
-        DatesFound::Nothing => {}
+        None => {}
     }
 }
 

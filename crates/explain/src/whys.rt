@@ -7,7 +7,7 @@ use crate::{images, labels, lines, voice, words};
 use address::PointAddress;
 use card::Card;
 use label::{LabelA, LabelB};
-use message::{Addresses, Request, Row, RowFound};
+use message::{Addresses, Request, Row};
 use rules::{Rule, Session};
 use std::io::Stdout;
 use why::Why;
@@ -89,10 +89,10 @@ fn differing(row: Row, request: Request) -> u8
     octets + cause + structure + unless(head.structure < 128, 4)
 }
 
-fn shape(output: Stdout, found: RowFound, request: Request) {
+fn shape(output: Stdout, found: Option<Row>, request: Request) {
     let head = request.header;
     match found {
-        RowFound::Is(row) => {
+        Some(row) => {
             words::shape(output, row.octets, row.cause, row.count);
             words::shaped(
                 output,
@@ -102,20 +102,20 @@ fn shape(output: Stdout, found: RowFound, request: Request) {
                 head.structure % 128,
             );
         }
-        RowFound::Nothing => {}
+        None => {}
     }
 }
 
-fn address(output: Stdout, found: RowFound, address: u8) {
+fn address(output: Stdout, found: Option<Row>, address: u8) {
     match found {
-        RowFound::Is(row) => {
+        Some(row) => {
             let addresses = row.addresses;
             match addresses {
                 Addresses::Only(own) => words::addresses(output, 0, own, address),
                 Addresses::Events => words::addresses(output, 1, 0, address),
             }
         }
-        RowFound::Nothing => {}
+        None => {}
     }
 }
 

@@ -12,7 +12,7 @@ ghost use Rattle.faults.specs.Images.{of_whole, broken_rule, fault_from, image_f
 ghost use Rattle.faults.specs.working.Walking.{Tells, own_rule, first_wrong, dates_rule, point_rule, further, Room, FollowsThere, PlaceThere, RuleThere, EndThere};
 
 use address::PointAddress;
-use fields::{DatesFound, Key, PointFound};
+use fields::{Dates, Key};
 use label::{DateTime, LabelA, LabelB};
 
 // The part of a label that is wrong, in the order in which they are looked at; those of a label b's front come before the rest.
@@ -175,17 +175,17 @@ fn first_wrong(first: bool, second: bool, one: ImageRule, other: ImageRule) -> I
     one
 }
 
-fn dates_rule(found: DatesFound) -> ImageRule
+fn dates_rule(found: Option<Dates>) -> ImageRule
     ensures { result ≡ dates_rule found }
 {
     match found {
-        DatesFound::Is(dates) => first_wrong(
+        Some(dates) => first_wrong(
             dates.first.is_valid(),
             dates.second.is_valid(),
             ImageRule::FirstDate,
             ImageRule::SecondDate,
         ),
-        DatesFound::Nothing => ImageRule::NoFault,
+        None => ImageRule::NoFault,
     }
 }
 
@@ -227,8 +227,8 @@ fn is_among(image: &[u8], point: PointAddress) -> bool
     ensures { result ≡ is_found (point_found point image.now) }
 {
     match fields::point_of(image, point) {
-        PointFound::Is(_) => true,
-        PointFound::Nothing => false,
+        Some(_) => true,
+        None => false,
     }
 }
 

@@ -1,5 +1,6 @@
 -- The single parts of an image: the points behind the first record, as a loop over their places comes to them, and how many octets they take.
 -- Each takes nine octets, so the next stands nine further. Assumes nothing.
+use Rattle.std.specs.Prelude.{Some, None}
 use Prim.Native.Nat.{ℕ, ◌+◌, ◌-◌, ◌*◌, ◌≤◌}
 use mathlib.Core.Bool.{Bool, true, false, ◌&&◌}
 use mathlib.Core.List.{List, [], ◌∷◌, flatten}
@@ -15,11 +16,6 @@ use Rattle.label.proofs.Label.{label_a_cut, label_b_cut}
 use Rattle.records.specs.Records.{length_of, kind_of, whole_at, record_at, records_from, kind_at, place_after}
 use Rattle.records.proofs.Records.{from_end, from_more, kind_there, kind_whole, kind_facts, not_kind}
 use Rattle.records.proofs.Places.{Lie, lie, none, one}
-use Rattle.fields.specs.declared.IdentityFound.TheVariants as head
-use Rattle.fields.specs.declared.PointFound.TheVariants as point
-use Rattle.fields.specs.declared.DatesFound.TheVariants as dates
-use Rattle.fields.specs.declared.ValueFound.TheVariants as value
-use Rattle.fields.specs.declared.EventFound.TheVariants as event
 use Rattle.fields.specs.Parts.{link_of, date_of, maker_of, product_of, point_of, password_of, first_date, second_date, value_of, quality_of, spa_of, spq_of, event_label, is_kind}
 use Rattle.fields.specs.Answers.{identity_found, leading, points_from, points_of, point_in, dates_at, dates_place, dates_found}
 use Rattle.fields.specs.Calls.{value_found, event_found}
@@ -67,12 +63,12 @@ points-fit s at = fit (lie s at)
 
 -- the point looked for, as a loop comes to it
 module _ (address number : ℕ) (s : List ℕ) (at : ℕ) where
-  pub point-end : (kind_at s at ≡ 2 → ⊥) → point.Nothing ≡ point_in address number (points_from s at)
+  pub point-end : (kind_at s at ≡ 2 → ⊥) → None ≡ point_in address number (points_from s at)
   unfolding point_in
   point-end n = sym (rw (points-end s at n))
 
   pub point-hit : kind_at s at ≡ 2 → (let r = cut s at 9 in
-      point_of r ≡ address → point.Is (record { number = number; password = password_of r }) ≡ point_in address number (points_from s at))
+      point_of r ≡ address → Some (record { number = number; password = password_of r }) ≡ point_in address number (points_from s at))
   unfolding point_in length_of
   point-hit k a = let o = cut_out s at 2 k (omega arith) in sym (rw (points-more s at k, point_in, ← o.is_record, eq-eqb _ _ a))
 
@@ -84,11 +80,11 @@ module _ (address number : ℕ) (s : List ℕ) (at : ℕ) where
 -- what stands at a place of its kind, and that nothing else does
 module _ (s : List ℕ) where
   pub head-is : kind_at s 1 ≡ 1 → (let r = cut s 1 11 in
-      head.Is (record { link = record { 0 = link_of r }; date = date_of r; maker = maker_of r; product = product_of r }) ≡ identity_found s)
+      Some (record { link = record { 0 = link_of r }; date = date_of r; maker = maker_of r; product = product_of r }) ≡ identity_found s)
   unfolding identity_found length_of
   head-is k = let o = cut_out s 1 1 k (omega arith) in sym (rw (k, ← o.is_record))
 
-  pub no-head : (kind_at s 1 ≡ 1 → ⊥) → head.Nothing ≡ identity_found s
+  pub no-head : (kind_at s 1 ≡ 1 → ⊥) → None ≡ identity_found s
   unfolding identity_found
   no-head n = sym (rw (ne_eqb (kind_at s 1) 1 n))
 
@@ -107,17 +103,17 @@ module _ (s : List ℕ) where
 
 module _ (s : List ℕ) (at : ℕ) where
   pub value-is : (object : ℕ) → kind_at s at ≡ 4 → 1 ≤ object → object ≤ 6 → (let r = cut s at 41 in
-      value.Is (record { value = value_of object r; quality = quality_of object r }) ≡ value_found object s at)
+      Some (record { value = value_of object r; quality = quality_of object r }) ≡ value_found object s at)
   unfolding value_found length_of
   value-is object k least most =
       let o = cut_out s at 4 k (omega arith) in
       sym (rw (k, le-leb 1 object least, le-leb object 6 most, ← o.is_record))
 
-  pub no_reading : (object : ℕ) → (kind_at s at ≡ 4 → ⊥) → value.Nothing ≡ value_found object s at
+  pub no_reading : (object : ℕ) → (kind_at s at ≡ 4 → ⊥) → None ≡ value_found object s at
   unfolding value_found
   no_reading object n = sym (rw (ne_eqb (kind_at s at) 4 n))
 
-  pub no-object : (object : ℕ) → (1 ≤ object → object ≤ 6 → ⊥) → value.Nothing ≡ value_found object s at
+  pub no-object : (object : ℕ) → (1 ≤ object → object ≤ 6 → ⊥) → None ≡ value_found object s at
   unfolding value_found
   no-object object n =
       let not-one : false ≡ (eqb (kind_at s at) 4 && (leb 1 object && leb object 6)) =
@@ -128,22 +124,22 @@ module _ (s : List ℕ) (at : ℕ) where
 
   -- each label is cut out of the record
   pub dates-are : kind_at s at ≡ 3 → (let r = cut s at 13 in
-      dates.Is (record { first = label_a_at (take 5 (drop 3 r)) 0; second = label_a_at (take 5 (drop 8 r)) 0 }) ≡ dates_at s at)
+      Some (record { first = label_a_at (take 5 (drop 3 r)) 0; second = label_a_at (take 5 (drop 8 r)) 0 }) ≡ dates_at s at)
   unfolding dates_at first_date second_date length_of
   dates-are k =
       let r = cut s at 13 in
       rw (label_a_cut r 3, label_a_cut r 8) (sym (rw (k, ← (cut_out s at 3 k (omega arith)).is_record)))
 
-  pub no-dates : (kind_at s at ≡ 3 → ⊥) → dates.Nothing ≡ dates_at s at
+  pub no-dates : (kind_at s at ≡ 3 → ⊥) → None ≡ dates_at s at
   unfolding dates_at
   no-dates n = sym (rw (ne_eqb (kind_at s at) 3 n))
 
   pub event-is : kind_at s at ≡ 5 → (let r = cut s at 15 in
-      event.Is (record { spa = spa_of r; spq = spq_of r; label = label_b_at (take 7 (drop 8 r)) 0 }) ≡ event_found s at)
+      Some (record { spa = spa_of r; spq = spq_of r; label = label_b_at (take 7 (drop 8 r)) 0 }) ≡ event_found s at)
   unfolding event_found event_label length_of
   event-is k = rw (label_b_cut (cut s at 15) 8) (sym (rw (k, ← (cut_out s at 5 k (omega arith)).is_record)))
 
-  pub no-event : (kind_at s at ≡ 5 → ⊥) → event.Nothing ≡ event_found s at
+  pub no-event : (kind_at s at ≡ 5 → ⊥) → None ≡ event_found s at
   unfolding event_found
   no-event n = sym (rw (ne_eqb (kind_at s at) 5 n))
 

@@ -1,5 +1,6 @@
 -- What the public contracts of this crate do not allow: two wrong outcomes or more of each.
 -- By computation on small images; and by the test where nothing of the kind stands. Assumes nothing.
+use Rattle.std.specs.Prelude.{Option, Some, None}
 use Prim.Native.Nat.{ℕ}
 use mathlib.Core.Bool.{false, and-false}
 use mathlib.Core.List.{List, [], ◌∷◌, ◌++◌, flatten}
@@ -23,16 +24,6 @@ use Rattle.fields.specs.declared.Point.{Point}
 use Rattle.fields.specs.declared.Dates.{Dates}
 use Rattle.fields.specs.declared.Value.{Value}
 use Rattle.fields.specs.declared.Event.{Event}
-use Rattle.fields.specs.declared.IdentityFound.{IdentityFound}
-use Rattle.fields.specs.declared.IdentityFound.TheVariants as head
-use Rattle.fields.specs.declared.PointFound.{PointFound}
-use Rattle.fields.specs.declared.PointFound.TheVariants as point
-use Rattle.fields.specs.declared.DatesFound.{DatesFound}
-use Rattle.fields.specs.declared.DatesFound.TheVariants as dates
-use Rattle.fields.specs.declared.ValueFound.{ValueFound}
-use Rattle.fields.specs.declared.ValueFound.TheVariants as value
-use Rattle.fields.specs.declared.EventFound.{EventFound}
-use Rattle.fields.specs.declared.EventFound.TheVariants as event
 use Rattle.label.specs.Label.{label_a_at, label_b_at}
 use Rattle.fields.specs.Parts.{number_at, link_of, maker_of, product_of, point_of, password_of, second_date, reading_label, value_of, quality_of, spa_of, event_label}
 use Rattle.fields.specs.working.Key.{at_minute, no_label, key, key_of, key_at, key_as}
@@ -48,6 +39,7 @@ use Rattle.fields.proofs.dates_at.Reads as dates_at_call
 use Rattle.fields.proofs.dates_of.Reads as dates_of
 use Rattle.fields.proofs.value_at.Reads as value_at
 use Rattle.fields.proofs.event_at.Reads as event_at
+use Rattle.fields.specs.declared.Identity.{Identity}
 
 -- to unfold one of these is to unfold what a record, and the points behind the first one, stand on
 the_record : Unit {0}
@@ -94,25 +86,25 @@ abbrev label_b : ℕ → ℕ → LabelA → LabelB
 label_b low high a = record { low = low; high = high; a = a }
 
 -- what is found, as numbers
-abbrev head_numbers : IdentityFound → List ℕ
-head_numbers (head.Is h) = h.link.0 ∷ h.date ∷ h.maker ∷ h.product ∷ []
-head_numbers head.Nothing = []
+abbrev head_numbers : Option Identity → List ℕ
+head_numbers (Some h) = h.link.0 ∷ h.date ∷ h.maker ∷ h.product ∷ []
+head_numbers None = []
 
-abbrev point_numbers : PointFound → List ℕ
-point_numbers (point.Is p) = p.number ∷ p.password ∷ []
-point_numbers point.Nothing = []
+abbrev point_numbers : Option Point → List ℕ
+point_numbers (Some p) = p.number ∷ p.password ∷ []
+point_numbers None = []
 
-abbrev dates_days : DatesFound → List ℕ
-dates_days (dates.Is d) = d.first.day ∷ d.second.day ∷ []
-dates_days dates.Nothing = []
+abbrev dates_days : Option Dates → List ℕ
+dates_days (Some d) = d.first.day ∷ d.second.day ∷ []
+dates_days None = []
 
-abbrev value_numbers : ValueFound → List ℕ
-value_numbers (value.Is v) = nat_abs v.value ∷ v.quality ∷ []
-value_numbers value.Nothing = []
+abbrev value_numbers : Option Value → List ℕ
+value_numbers (Some v) = nat_abs v.value ∷ v.quality ∷ []
+value_numbers None = []
 
-abbrev event_numbers : EventFound → List ℕ
-event_numbers (event.Is e) = e.spa ∷ e.spq ∷ []
-event_numbers event.Nothing = []
+abbrev event_numbers : Option Event → List ℕ
+event_numbers (Some e) = e.spa ∷ e.spq ∷ []
+event_numbers None = []
 
 module _ (κs : Lfts 1) (x : Place) where
   -- a reading's key with its kind alone
@@ -170,21 +162,21 @@ module _ (κs : Lfts 1) (x : Place) where
 
   -- the product one octet early, whatever the rest
   identity_of_product : (link : LinkAddress) (date maker : ℕ)
-      → RuledOut (identity_of.Post κs) (lent x image1, tt) (head.Is (record { link = link; date = date; maker = maker; product = 0x07123456 }))
+      → RuledOut (identity_of.Post κs) (lent x image1, tt) (Some (record { link = link; date = date; maker = maker; product = 0x07123456 }))
   unfolding identity_found product_of number_at the_record
-  identity_of_product link date maker s p = omega (arith, ap (λ (r : IdentityFound). get_or (head_numbers r) 3 0) p)
+  identity_of_product link date maker s p = omega (arith, ap (λ (r : Option Identity). get_or (head_numbers r) 3 0) p)
 
   -- the date as the maker, whatever the rest
   identity_of_maker : (link : LinkAddress) (date product : ℕ)
-      → RuledOut (identity_of.Post κs) (lent x image1, tt) (head.Is (record { link = link; date = date; maker = 26; product = product }))
+      → RuledOut (identity_of.Post κs) (lent x image1, tt) (Some (record { link = link; date = date; maker = 26; product = product }))
   unfolding identity_found maker_of the_record
-  identity_of_maker link date product s p = omega (arith, ap (λ (r : IdentityFound). get_or (head_numbers r) 2 0) p)
+  identity_of_maker link date product s p = omega (arith, ap (λ (r : Option Identity). get_or (head_numbers r) 2 0) p)
 
   -- the link address low octet first, whatever the rest
   identity_of_link : (date maker product : ℕ)
-      → RuledOut (identity_of.Post κs) (lent x image1, tt) (head.Is (record { link = record { 0 = 256 }; date = date; maker = maker; product = product }))
+      → RuledOut (identity_of.Post κs) (lent x image1, tt) (Some (record { link = record { 0 = 256 }; date = date; maker = maker; product = product }))
   unfolding identity_found link_of number_at the_record
-  identity_of_link date maker product s p = omega (arith, ap (λ (r : IdentityFound). get_or (head_numbers r) 0 0) p)
+  identity_of_link date maker product s p = omega (arith, ap (λ (r : Option Identity). get_or (head_numbers r) 0 0) p)
 
   -- one point more than there are
   points_from_one : RuledOut (points.Post κs) (lent x image2, tt) 3
@@ -198,91 +190,91 @@ module _ (κs : Lfts 1) (x : Place) where
 
   -- points numbered from 0, whatever the password
   point_of_number : (password : ℕ)
-      → RuledOut (point_of_call.Post κs) (lent x image2, (record { 0 = 1 }, tt)) (point.Is (record { number = 0; password = password }))
+      → RuledOut (point_of_call.Post κs) (lent x image2, (record { 0 = 1 }, tt)) (Some (record { number = 0; password = password }))
   unfolding point_found point_in point_of number_at the_points
-  point_of_number password s p = omega (arith, ap (λ (r : PointFound). get_or (point_numbers r) 0 0) p)
+  point_of_number password s p = omega (arith, ap (λ (r : Option Point). get_or (point_numbers r) 0 0) p)
 
   -- the password one octet early, whatever the number
   point_of_password : (number : ℕ)
-      → RuledOut (point_of_call.Post κs) (lent x image2, (record { 0 = 1 }, tt)) (point.Is (record { number = number; password = 0x01123456 }))
+      → RuledOut (point_of_call.Post κs) (lent x image2, (record { 0 = 1 }, tt)) (Some (record { number = number; password = 0x01123456 }))
   unfolding point_found point_in point_of password_of number_at the_points
-  point_of_password number s p = omega (arith, ap (λ (r : PointFound). get_or (point_numbers r) 1 0) p)
+  point_of_password number s p = omega (arith, ap (λ (r : Option Point). get_or (point_numbers r) 1 0) p)
 
   -- the first point's password for the second point
   point_of_other : (number : ℕ)
-      → RuledOut (point_of_call.Post κs) (lent x image2, (record { 0 = 2 }, tt)) (point.Is (record { number = number; password = 0x12345678 }))
+      → RuledOut (point_of_call.Post κs) (lent x image2, (record { 0 = 2 }, tt)) (Some (record { number = number; password = 0x12345678 }))
   unfolding point_found point_in point_of password_of number_at the_points
-  point_of_other number s p = omega (arith, ap (λ (r : PointFound). get_or (point_numbers r) 1 0) p)
+  point_of_other number s p = omega (arith, ap (λ (r : Option Point). get_or (point_numbers r) 1 0) p)
 
   -- a point that is not in the image, whatever its number and password
-  point_of_none : (n : Point) → RuledOut (point_of_call.Post κs) (lent x image2, (record { 0 = 3 }, tt)) (point.Is n)
+  point_of_none : (n : Point) → RuledOut (point_of_call.Post κs) (lent x image2, (record { 0 = 3 }, tt)) (Some n)
   unfolding point_found point_in point_of number_at the_points
-  point_of_none n s p = omega (arith, ap (λ (r : PointFound). length (point_numbers r)) p)
+  point_of_none n s p = omega (arith, ap (λ (r : Option Point). length (point_numbers r)) p)
 
   -- the first date twice
   dates_at_second : (first : LabelA)
-      → RuledOut (dates_at_call.Post κs) (lent x dates1, (0, tt)) (dates.Is (record { first = first; second = label_a 0 2 29 3 26 }))
+      → RuledOut (dates_at_call.Post κs) (lent x dates1, (0, tt)) (Some (record { first = first; second = label_a 0 2 29 3 26 }))
   unfolding dates_at second_date label_a_at the_record
-  dates_at_second first s p = omega (arith, ap (λ (r : DatesFound). get_or (dates_days r) 1 0) p)
+  dates_at_second first s p = omega (arith, ap (λ (r : Option Dates). get_or (dates_days r) 1 0) p)
 
   -- switch dates where none stand, whatever the octets
   dates_at_kind : (octets : List ℕ) (at : ℕ) (d : Dates) → (kind_at octets at ≡ 3 → ⊥)
-      → RuledOut (dates_at_call.Post κs) (lent x octets, (at, tt)) (dates.Is d)
+      → RuledOut (dates_at_call.Post κs) (lent x octets, (at, tt)) (Some d)
   unfolding dates_at
   dates_at_kind octets at d none s p = never (cc (rw (ne_eqb (kind_at octets at) 3 none) at p))
 
   -- nothing where switch dates stand behind a point
-  dates_of_place : RuledOut (dates_of.Post κs) (lent x image1, tt) dates.Nothing
+  dates_of_place : RuledOut (dates_of.Post κs) (lent x image1, tt) None
   unfolding dates_found dates_place dates_at the_points
-  dates_of_place s p = omega (arith, ap (λ (r : DatesFound). length (dates_days r)) p)
+  dates_of_place s p = omega (arith, ap (λ (r : Option Dates). length (dates_days r)) p)
 
   -- the first date twice, of an image
   dates_of_second : (first : LabelA)
-      → RuledOut (dates_of.Post κs) (lent x image1, tt) (dates.Is (record { first = first; second = label_a 0 2 29 3 26 }))
+      → RuledOut (dates_of.Post κs) (lent x image1, tt) (Some (record { first = first; second = label_a 0 2 29 3 26 }))
   unfolding dates_found dates_place dates_at second_date label_a_at the_points
-  dates_of_second first s p = omega (arith, ap (λ (r : DatesFound). get_or (dates_days r) 1 0) p)
+  dates_of_second first s p = omega (arith, ap (λ (r : Option Dates). get_or (dates_days r) 1 0) p)
 
   -- switch dates of an image that has none, whatever they are
-  dates_of_none : (d : Dates) → RuledOut (dates_of.Post κs) (lent x image2, tt) (dates.Is d)
+  dates_of_none : (d : Dates) → RuledOut (dates_of.Post κs) (lent x image2, tt) (Some d)
   unfolding dates_found dates_place dates_at the_points
-  dates_of_none d s p = omega (arith, ap (λ (r : DatesFound). length (dates_days r)) p)
+  dates_of_none d s p = omega (arith, ap (λ (r : Option Dates). length (dates_days r)) p)
 
   -- an object 7, whatever the octets
-  value_at_object : (octets : List ℕ) (at : ℕ) (v : Value) → RuledOut (value_at.Post κs) (lent x octets, (at, (7, tt))) (value.Is v)
+  value_at_object : (octets : List ℕ) (at : ℕ) (v : Value) → RuledOut (value_at.Post κs) (lent x octets, (at, (7, tt))) (Some v)
   unfolding value_found
   value_at_object octets at v s p = never (cc (rw (and-false (eqb (kind_at octets at) 4)) at p))
 
   -- an object where no reading stands, whatever the octets
   value_at_kind : (octets : List ℕ) (at object : ℕ) (v : Value) → (kind_at octets at ≡ 4 → ⊥)
-      → RuledOut (value_at.Post κs) (lent x octets, (at, (object, tt))) (value.Is v)
+      → RuledOut (value_at.Post κs) (lent x octets, (at, (object, tt))) (Some v)
   unfolding value_found
   value_at_kind octets at object v none s p = never (cc (rw (ne_eqb (kind_at octets at) 4 none) at p))
 
   -- an octet of the value as quality
-  value_at_quality : (v : ℤ) → RuledOut (value_at.Post κs) (lent x reading1, (0, (1, tt))) (value.Is (record { value = v; quality = 1 }))
+  value_at_quality : (v : ℤ) → RuledOut (value_at.Post κs) (lent x reading1, (0, (1, tt))) (Some (record { value = v; quality = 1 }))
   unfolding value_found quality_of the_record
-  value_at_quality v s p = omega (arith, ap (λ (r : ValueFound). get_or (value_numbers r) 1 0) p)
+  value_at_quality v s p = omega (arith, ap (λ (r : Option Value). get_or (value_numbers r) 1 0) p)
 
   -- the value low octet first
   value_at_order : (quality : ℕ)
-      → RuledOut (value_at.Post κs) (lent x reading1, (0, (2, tt))) (value.Is (record { value = pos 0x02000000; quality = quality }))
+      → RuledOut (value_at.Post κs) (lent x reading1, (0, (2, tt))) (Some (record { value = pos 0x02000000; quality = quality }))
   unfolding value_found value_of signed number_at the_record
-  value_at_order quality s p = omega (arith, ap (λ (r : ValueFound). get_or (value_numbers r) 0 0) p)
+  value_at_order quality s p = omega (arith, ap (λ (r : Option Value). get_or (value_numbers r) 0 0) p)
 
   -- a negative value without its sign
   value_at_sign : (quality : ℕ)
-      → RuledOut (value_at.Post κs) (lent x reading1, (0, (6, tt))) (value.Is (record { value = pos 0xFFFFFFFF; quality = quality }))
+      → RuledOut (value_at.Post κs) (lent x reading1, (0, (6, tt))) (Some (record { value = pos 0xFFFFFFFF; quality = quality }))
   unfolding value_found value_of signed number_at the_record
-  value_at_sign quality s p = omega (arith, ap (λ (r : ValueFound). get_or (value_numbers r) 0 0) p)
+  value_at_sign quality s p = omega (arith, ap (λ (r : Option Value). get_or (value_numbers r) 0 0) p)
 
   -- the SPQ/SPI octet as SPA, whatever the rest
   event_at_swapped : (spq : ℕ) (label : LabelB)
-      → RuledOut (event_at.Post κs) (lent x event1, (0, tt)) (event.Is (record { spa = 4; spq = spq; label = label }))
+      → RuledOut (event_at.Post κs) (lent x event1, (0, tt)) (Some (record { spa = 4; spq = spq; label = label }))
   unfolding event_found spa_of the_record
-  event_at_swapped spq label s p = omega (arith, ap (λ (r : EventFound). get_or (event_numbers r) 0 0) p)
+  event_at_swapped spq label s p = omega (arith, ap (λ (r : Option Event). get_or (event_numbers r) 0 0) p)
 
   -- an event where a record of another kind or none stands, whatever the octets
   event_at_kind : (octets : List ℕ) (at : ℕ) (e : Event) → (kind_at octets at ≡ 5 → ⊥)
-      → RuledOut (event_at.Post κs) (lent x octets, (at, tt)) (event.Is e)
+      → RuledOut (event_at.Post κs) (lent x octets, (at, tt)) (Some e)
   unfolding event_found
   event_at_kind octets at e none s p = never (cc (rw (ne_eqb (kind_at octets at) 5 none) at p))

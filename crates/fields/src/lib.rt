@@ -28,12 +28,6 @@ pub struct Identity {
     pub product: u32,
 }
 
-#[derive(Clone, Copy)]
-pub enum IdentityFound {
-    Is(Identity),
-    Nothing,
-}
-
 // A point's number among the points, from 1, and its password.
 #[derive(Clone, Copy)]
 pub struct Point {
@@ -41,23 +35,11 @@ pub struct Point {
     pub password: u32,
 }
 
-#[derive(Clone, Copy)]
-pub enum PointFound {
-    Is(Point),
-    Nothing,
-}
-
 // The two switch dates.
 #[derive(Clone, Copy)]
 pub struct Dates {
     pub first: LabelA,
     pub second: LabelA,
-}
-
-#[derive(Clone, Copy)]
-pub enum DatesFound {
-    Is(Dates),
-    Nothing,
 }
 
 // One object of a reading.
@@ -68,22 +50,10 @@ pub struct Value {
 }
 
 #[derive(Clone, Copy)]
-pub enum ValueFound {
-    Is(Value),
-    Nothing,
-}
-
-#[derive(Clone, Copy)]
 pub struct Event {
     pub spa: u8,
     pub spq: u8,
     pub label: LabelB,
-}
-
-#[derive(Clone, Copy)]
-pub enum EventFound {
-    Is(Event),
-    Nothing,
 }
 
 fn two(s: &[u8], at: usize) -> u16
@@ -189,19 +159,19 @@ pub fn key_at(s: &[u8], at: usize) -> Key
 }
 
 // Link address, date, maker and product: the first record, where it is of kind 1.
-pub fn identity_of(image: &[u8]) -> IdentityFound
+pub fn identity_of(image: &[u8]) -> Option<Identity>
     ensures { result ≡ identity_found image.now }
 {
     if records::kind_at(image, 1) == 1 {
         let r = &image[1..12];
-        return IdentityFound::Is(Identity {
+        return Some(Identity {
             link: LinkAddress(two(r, 3)),
             date: r[5],
             maker: r[6],
             product: four(r, 7),
         });
     }
-    IdentityFound::Nothing
+    None
 }
 
 // How many points stand behind the first record.
@@ -218,7 +188,7 @@ pub fn points(image: &[u8]) -> usize
 }
 
 // The first point with an address: its number among the points and its password.
-pub fn point_of(image: &[u8], address: PointAddress) -> PointFound
+pub fn point_of(image: &[u8], address: PointAddress) -> Option<Point>
     ensures { result ≡ point_found address image.now }
 {
     let mut at = records::after(image, 1);
@@ -226,7 +196,7 @@ pub fn point_of(image: &[u8], address: PointAddress) -> PointFound
     while records::kind_at(image, at) == 2 {
         let r = &image[at..at + 9];
         if two(r, 3) == address.0 {
-            return PointFound::Is(Point {
+            return Some(Point {
                 number,
                 password: four(r, 5),
             });
@@ -234,62 +204,62 @@ pub fn point_of(image: &[u8], address: PointAddress) -> PointFound
         number += 1;
         at += 9;
     }
-    PointFound::Nothing
+    None
 }
 
 // The two switch dates at a place.
-pub fn dates_at(image: &[u8], at: usize) -> DatesFound
+pub fn dates_at(image: &[u8], at: usize) -> Option<Dates>
     ensures { result ≡ dates_at image.now at }
 {
     if records::kind_at(image, at) == 3 {
         let r = &image[at..at + 13];
-        return DatesFound::Is(Dates {
+        return Some(Dates {
             first: LabelA::read(&r[3..8]),
             second: LabelA::read(&r[8..13]),
         });
     }
-    DatesFound::Nothing
+    None
 }
 
 // The two switch dates of an image, which stand behind the points.
-pub fn dates_of(image: &[u8]) -> DatesFound
+pub fn dates_of(image: &[u8]) -> Option<Dates>
     ensures { result ≡ dates_found image.now }
 {
     dates_at(image, records::after(image, 1) + 9 * points(image))
 }
 
 // The value and quality of an object, 1 to 6, of the reading at a place.
-pub fn value_at(image: &[u8], at: usize, object: u8) -> ValueFound
+pub fn value_at(image: &[u8], at: usize, object: u8) -> Option<Value>
     ensures { result ≡ value_found object image.now at }
 {
     if records::kind_at(image, at) != 4 {
-        return ValueFound::Nothing;
+        return None;
     }
     if object < 1 {
-        return ValueFound::Nothing;
+        return None;
     }
     if 6 < object {
-        return ValueFound::Nothing;
+        return None;
     }
     let r = &image[at..at + 41];
     let place = (object as usize - 1) * 5;
-    ValueFound::Is(Value {
+    Some(Value {
         value: octets::signed(four(r, 11 + place)),
         quality: r[15 + place],
     })
 }
 
 // The event at a place.
-pub fn event_at(image: &[u8], at: usize) -> EventFound
+pub fn event_at(image: &[u8], at: usize) -> Option<Event>
     ensures { result ≡ event_found image.now at }
 {
     if records::kind_at(image, at) == 5 {
         let r = &image[at..at + 15];
-        return EventFound::Is(Event {
+        return Some(Event {
             spa: r[6],
             spq: r[7],
             label: LabelB::read(&r[8..15]),
         });
     }
-    EventFound::Nothing
+    None
 }

@@ -1,6 +1,6 @@
 -- What the public contracts of this crate do not allow: two wrong outcomes or more of each.
 -- By computation where the octets are known, by cases on the tests where they are not. Assumes nothing.
-use Rattle.std.proofs.Common.{◌≡◌, ℕ, ◌+◌, ◌*◌, ◌≤◌, false, not, ◌||◌, eqb, ltb, List, [], ◌∷◌, length, get_or, take, replicate, refl, ap, arith, get_or-drop, le-ltb}
+use Rattle.std.proofs.Common.{◌≡◌, ℕ, ◌+◌, ◌*◌, ◌≤◌, false, not, ◌||◌, eqb, ltb, List, [], ◌∷◌, length, get_or, take, replicate, refl, ap, arith, get_or-drop, le-ltb, Option, Some, None}
 use contract.Lifetimes.{Lfts}
 use Rattle.octets.specs.Answer.{Answer}
 use Rattle.octets.specs.Conditions.{holds}
@@ -14,8 +14,6 @@ use Rattle.address.specs.declared.LinkAddress.{LinkAddress}
 use Rattle.frame.specs.declared.Form.{Form}
 use Rattle.frame.specs.declared.Form.TheVariants as form
 use Rattle.frame.specs.declared.Service.TheVariants.{Reset, UserData, Status, Collection}
-use Rattle.frame.specs.declared.Asked.{Asked}
-use Rattle.frame.specs.declared.Asked.TheVariants.{Is, NotOffered}
 use Rattle.frame.specs.declared.Fault.{Fault}
 use Rattle.frame.specs.declared.Fault.TheVariants.{Empty, Long, Parity, Malformed, Spoiled}
 use Rattle.frame.specs.declared.Judged.TheVariants.{Faulty, Fixed, Variable}
@@ -35,6 +33,7 @@ use Rattle.frame.proofs.service_of.Reads as service_of
 use Rattle.frame.proofs.Reply.plain.Reads as plain
 use Rattle.frame.proofs.Fault.number.Reads as fault_number
 use Rattle.frame.proofs.write.Reads as write
+use Rattle.frame.specs.declared.Service.{Service}
 
 -- a NACK; what else a reply has does not count
 abbrev nack : Kept → Reply
@@ -130,43 +129,43 @@ module _ (κs : Lfts 1) (x y : Place) where
   user_many l c a b first sum s p = never (cc)
 
 -- which service is asked for: 0 none; and its FCB
-abbrev asks : Asked → ℕ × ℕ
-asks NotOffered = (0, 0)
-asks (Is Reset) = (1, 0)
-asks (Is (UserData bit)) = (2, bit)
-asks (Is Status) = (3, 0)
-asks (Is (Collection bit)) = (4, bit)
+abbrev asks : Option Service → ℕ × ℕ
+asks None = (0, 0)
+asks (Some Reset) = (1, 0)
+asks (Some (UserData bit)) = (2, bit)
+asks (Some Status) = (3, 0)
+asks (Some (Collection bit)) = (4, bit)
 
 module _ (κs : Lfts 0) where
   -- the count bit of a collection lost
-  service_of_bit : RuledOut (service_of.Post κs) (form.Fixed, (0x7B, tt)) (Is (Collection 0))
+  service_of_bit : RuledOut (service_of.Post κs) (form.Fixed, (0x7B, tt)) (Some (Collection 0))
   unfolding offered
-  service_of_bit s p = omega (arith, ap (λ (r : Asked). (asks r).1) p)
+  service_of_bit s p = omega (arith, ap (λ (r : Option Service). (asks r).1) p)
 
   -- a reset by a control field that is not the centre's, in whatever form
-  service_of_other : (form : Form) (c : ℕ) → from_centre c ≡ false → RuledOut (service_of.Post κs) (form, (c, tt)) (Is Reset)
+  service_of_other : (form : Form) (c : ℕ) → from_centre c ≡ false → RuledOut (service_of.Post κs) (form, (c, tt)) (Some Reset)
   unfolding offered
-  service_of_other form c out s p = omega (arith, ap (λ (r : Asked). (asks r).0) (rw out at p))
+  service_of_other form c out s p = omega (arith, ap (λ (r : Option Service). (asks r).0) (rw out at p))
 
   -- a reset by function 1
-  service_of_function : RuledOut (service_of.Post κs) (form.Fixed, (0x61, tt)) (Is Reset)
+  service_of_function : RuledOut (service_of.Post κs) (form.Fixed, (0x61, tt)) (Some Reset)
   unfolding offered
-  service_of_function s p = omega (arith, ap (λ (r : Asked). (asks r).0) p)
+  service_of_function s p = omega (arith, ap (λ (r : Option Service). (asks r).0) p)
 
   -- a reset by a variable frame
-  service_of_form : RuledOut (service_of.Post κs) (form.Variable, (0x40, tt)) (Is Reset)
+  service_of_form : RuledOut (service_of.Post κs) (form.Variable, (0x40, tt)) (Some Reset)
   unfolding offered
-  service_of_form s p = omega (arith, ap (λ (r : Asked). (asks r).0) p)
+  service_of_form s p = omega (arith, ap (λ (r : Option Service). (asks r).0) p)
 
   -- user data with FCV 0
-  service_of_fcv : RuledOut (service_of.Post κs) (form.Variable, (0x43, tt)) (Is (UserData 0))
+  service_of_fcv : RuledOut (service_of.Post κs) (form.Variable, (0x43, tt)) (Some (UserData 0))
   unfolding offered
-  service_of_fcv s p = omega (arith, ap (λ (r : Asked). (asks r).0) p)
+  service_of_fcv s p = omega (arith, ap (λ (r : Option Service). (asks r).0) p)
 
   -- a status with FCB 1 refused, where the FCB is not looked at
-  service_of_status : RuledOut (service_of.Post κs) (form.Fixed, (0x69, tt)) NotOffered
+  service_of_status : RuledOut (service_of.Post κs) (form.Fixed, (0x69, tt)) None
   unfolding offered
-  service_of_status s p = omega (arith, ap (λ (r : Asked). (asks r).0) p)
+  service_of_status s p = omega (arith, ap (λ (r : Option Service). (asks r).0) p)
 
   -- a wrong checksum called 3
   fault_number_spoiled : RuledOut (fault_number.Post κs) (Spoiled, tt) 3

@@ -1,17 +1,16 @@
 -- What this crate's own calls answer, as the paper's number and values, and what they leave. The card's definition does without it.
 -- Assumes nothing.
-use Rattle.std.specs.Prelude.{ℕ, List, [], ◌∷◌, length, take, drop, nat_lt}
+use Rattle.std.specs.Prelude.{ℕ, List, [], ◌∷◌, length, take, drop, nat_lt, Option, Some, None}
 use Rattle.octets.specs.Answer.{Answer}
 use Rattle.octets.specs.Choice.{when◌then◌else◌}
 use Rattle.octets.specs.Over.{laid_in}
 use Rattle.frame.specs.declared.Judged.{Judged}
 use Rattle.frame.specs.declared.Judged.TheVariants.{Faulty, Fixed, Variable}
 use Rattle.frame.specs.declared.Service.TheVariants.{Reset, UserData, Status, Collection}
-use Rattle.frame.specs.declared.Asked.{Asked}
-use Rattle.frame.specs.declared.Asked.TheVariants.{Is, NotOffered}
 use Rattle.frame.specs.declared.Written.{Written}
 use Rattle.frame.specs.declared.Written.TheVariants.{Short, Octets}
 use Rattle.frame.specs.Frame.{fault_number, Verdict, refused, sound, fixed, variable}
+use Rattle.frame.specs.declared.Service.{Service}
 
 -- a sound frame is number 0 with its start octet, control, address and, in the variable form, the number of its user octets
 abbrev pub verdict_says : Verdict → Answer
@@ -29,12 +28,12 @@ abbrev pub user_part : ℕ → List ℕ → List ℕ
 user_part users run = take users (drop 7 run)
 
 -- the paper's numbers: 0 with the function and, where it counts, the FCB; or 6
-abbrev pub asked_says : Asked → Answer
-asked_says NotOffered = record { number = 6; values = [] }
-asked_says (Is Reset) = record { number = 0; values = 0 ∷ [] }
-asked_says (Is (UserData bit)) = record { number = 0; values = 3 ∷ bit ∷ [] }
-asked_says (Is Status) = record { number = 0; values = 9 ∷ [] }
-asked_says (Is (Collection bit)) = record { number = 0; values = 11 ∷ bit ∷ [] }
+abbrev pub asked_says : Option Service → Answer
+asked_says None = record { number = 6; values = [] }
+asked_says (Some Reset) = record { number = 0; values = 0 ∷ [] }
+asked_says (Some (UserData bit)) = record { number = 0; values = 3 ∷ bit ∷ [] }
+asked_says (Some Status) = record { number = 0; values = 9 ∷ [] }
+asked_says (Some (Collection bit)) = record { number = 0; values = 11 ∷ bit ∷ [] }
 
 -- number 9, or 0 and how many octets are written
 abbrev pub written_says : Written → Answer

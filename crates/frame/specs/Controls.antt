@@ -1,6 +1,6 @@
 -- The control field. Document 01, "C from the centre" and "C of replies".
 -- Assumes nothing.
-use Rattle.std.specs.Prelude.{ℕ, Bool, true, false, not, ◌&&◌, [], ◌==◌}
+use Rattle.std.specs.Prelude.{ℕ, Bool, true, false, not, ◌&&◌, [], ◌==◌, Option, Some, None}
 use Rattle.octets.specs.Bits.{bits◌to◌of◌}
 use Rattle.octets.specs.First.{◌⇒◌▸◌, first_of◌else◌}
 use Rattle.frame.specs.declared.Form.{Form}
@@ -8,8 +8,6 @@ use Rattle.frame.specs.declared.Form.TheVariants.{Fixed, Variable}
 use Rattle.frame.specs.declared.Service.{Service}
 use Rattle.frame.specs.declared.Service.TheVariants.{Reset, UserData, Status, Collection}
 use Rattle.frame.specs.Frame.{Frame, fixed, variable}
-use Rattle.frame.specs.declared.Asked.{Asked}
-use Rattle.frame.specs.declared.Asked.TheVariants.{Is, NotOffered}
 use Rattle.frame.specs.declared.Control.{Control}
 use Rattle.frame.specs.declared.Control.TheVariants.{Ack, Nack, Data, NothingToGive}
 use Rattle.frame.specs.declared.Control.TheVariants.{Status as StatusReply}
@@ -40,18 +38,18 @@ calls form c its_form number its_fcv = in_form its_form form && (function_of c =
 
 -- offered: 0 reset (fixed, FCV 0), 3 user data (variable, FCV 1), 9 status (fixed, FCV 0), 11 class 2 (fixed, FCV 1); with FCV 0 the FCB
 -- is not looked at
-unfoldable pub offered : Form → ℕ → Asked
+unfoldable pub offered : Form → ℕ → Option Service
 offered form c =
     first_of
-    not (from_centre c) ⇒ NotOffered ▸
-    calls form c Fixed 0 0 ⇒ Is Reset ▸
-    calls form c Variable 3 1 ⇒ Is (UserData (fcb c)) ▸
-    calls form c Fixed 9 0 ⇒ Is Status ▸
-    calls form c Fixed 11 1 ⇒ Is (Collection (fcb c)) ▸ []
-    else NotOffered
+    not (from_centre c) ⇒ None ▸
+    calls form c Fixed 0 0 ⇒ Some Reset ▸
+    calls form c Variable 3 1 ⇒ Some (UserData (fcb c)) ▸
+    calls form c Fixed 9 0 ⇒ Some Status ▸
+    calls form c Fixed 11 1 ⇒ Some (Collection (fcb c)) ▸ []
+    else None
 
 -- what a sound frame asks for
-abbrev pub asked_by : Frame → Asked
+abbrev pub asked_by : Frame → Option Service
 asked_by (fixed c a) = offered Fixed c
 asked_by (variable c a user) = offered Variable c
 

@@ -56,12 +56,6 @@ pub enum Service {
 }
 
 // What a control field asks for: a service, or nothing that is offered.
-#[derive(Clone, Copy)]
-pub enum Asked {
-    Is(Service),
-    NotOffered,
-}
-
 // The control fields of replies: acknowledged, not acknowledged, data, nothing to give, the link's status.
 #[derive(Clone, Copy)]
 pub enum Control {
@@ -236,7 +230,7 @@ pub fn user(run: &[u8], users: u8) -> &[u8]
 }
 
 // What a control field asks for in a frame of a form.
-pub fn service_of(form: Form, control: u8) -> Asked
+pub fn service_of(form: Form, control: u8) -> Option<Service>
     ensures { result ≡ offered form control }
 {
     match form {
@@ -246,40 +240,40 @@ pub fn service_of(form: Form, control: u8) -> Asked
 }
 
 // With FCV 0 either FCB serves.
-fn fixed_service(control: u8) -> Asked
+fn fixed_service(control: u8) -> Option<Service>
     ensures { result ≡ offered Form.Fixed control }
 {
     if control == Service::COLLECTION {
-        return Asked::Is(Service::Collection(0));
+        return Some(Service::Collection(0));
     }
     if control == Service::COLLECTION + Service::FCB {
-        return Asked::Is(Service::Collection(1));
+        return Some(Service::Collection(1));
     }
     if control == Service::RESET {
-        return Asked::Is(Service::Reset);
+        return Some(Service::Reset);
     }
     if control == Service::RESET + Service::FCB {
-        return Asked::Is(Service::Reset);
+        return Some(Service::Reset);
     }
     if control == Service::STATUS {
-        return Asked::Is(Service::Status);
+        return Some(Service::Status);
     }
     if control == Service::STATUS + Service::FCB {
-        return Asked::Is(Service::Status);
+        return Some(Service::Status);
     }
-    Asked::NotOffered
+    None
 }
 
-fn variable_service(control: u8) -> Asked
+fn variable_service(control: u8) -> Option<Service>
     ensures { result ≡ offered Form.Variable control }
 {
     if control == Service::USER_DATA {
-        return Asked::Is(Service::UserData(0));
+        return Some(Service::UserData(0));
     }
     if control == Service::USER_DATA + Service::FCB {
-        return Asked::Is(Service::UserData(1));
+        return Some(Service::UserData(1));
     }
-    Asked::NotOffered
+    None
 }
 
 impl Reply {

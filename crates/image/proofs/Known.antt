@@ -1,5 +1,6 @@
 -- The points of an orderly image: all records of kind 2 stand behind the first record, one after the other; so a point is known
 -- exactly when it is found there, and how many points there are is counted there. Kinds rise. Assumes nothing.
+use Rattle.std.specs.Prelude.{Option}
 use Prim.Native.Nat.{ℕ, suc, ◌+◌, ◌≤◌, ◌<◌}
 use mathlib.Core.Bool.{Bool, true, false}
 use mathlib.Core.List.{List, [], ◌∷◌}
@@ -16,7 +17,6 @@ use Rattle.records.specs.Said.{every, linked, keep, how_many}
 use Rattle.records.proofs.Records.{Whole, whole_facts, whole_itself, some_kind, last_kind, from_end, from_more, OfKind, kind_facts, not_kind}
 use Rattle.records.proofs.Said.{every_so, every_same, keep_none}
 use Rattle.fields.specs.declared.Key.{Key}
-use Rattle.fields.specs.declared.PointFound.{PointFound}
 use Rattle.fields.specs.Parts.{point_of, is_kind, is_point}
 use Rattle.fields.specs.working.Key.{key_of}
 use Rattle.fields.specs.Answers.{records_of, leading, points_from, points_of, point_in, point_found}
@@ -24,6 +24,7 @@ use Rattle.fields.proofs.Parts.{key_kind, key_4, key_5}
 use Rattle.image.specs.Image.{in_order, knows}
 use Rattle.image.specs.working.Keys.{is_found, known_in, key_known}
 use Rattle.image.proofs.Order.{order_kinds, order_once, linked_tail, before_rest}
+use Rattle.fields.specs.declared.Point.{Point}
 
 -- a reading or an event has its point in its key
 named : (r : List ℕ) → Whole r → 4 ≤ kind_of r → (key_of r).point.0 ≡ point_of r
@@ -46,7 +47,7 @@ pub known_low : (points : List (List ℕ)) (k : Key) → k.kind < 4 → true ≡
 unfolding key_known
 known_low points k h = sym (rw (lt-leb 4 k.kind h))
 
-pub known_high : (s : List ℕ) (k : Key) → 4 ≤ k.kind → (found : PointFound) → found ≡ point_found k.point s → is_found found ≡ key_known (points_of s) k
+pub known_high : (s : List ℕ) (k : Key) → 4 ≤ k.kind → (found : Option Point) → found ≡ point_found k.point s → is_found found ≡ key_known (points_of s) k
 unfolding key_known point_found
 known_high s k h found g = rw (le-leb 4 k.kind h, g)
 

@@ -12,7 +12,7 @@ ghost use Rattle.image.specs.Image.{reading_record, event_record, right, sound_i
 ghost use Rattle.image.specs.working.Keys.{valid_dates, by_key, key_before, keys_in_order, orderly, fits, key_known, key_fits, Passed, Behind, halted, advanced, Going, Onward, Next};
 
 use address::PointAddress;
-use fields::{DatesFound, Key, PointFound};
+use fields::{Dates, Key};
 use label::{LabelA, LabelB, Moment};
 
 // Record addresses of readings: periods and totals.
@@ -41,17 +41,13 @@ pub fn is_event_record(address: u8) -> bool
     address <= 129
 }
 
-fn are_valid(found: DatesFound) -> bool
+#[tactic(auto, unfolding(crate::specs::working::Keys::valid_dates))]
+fn are_valid(found: Option<Dates>) -> bool
     ensures { result ≡ valid_dates found }
 {
     match found {
-        DatesFound::Is(dates) => {
-            if dates.first.is_valid() {
-                return dates.second.is_valid();
-            }
-            false
-        }
-        DatesFound::Nothing => false,
+        Some(dates) => dates.first.is_valid() && dates.second.is_valid(),
+        None => false,
     }
 }
 
@@ -142,16 +138,11 @@ fn before_all() -> Key
 }
 
 // The point of a reading or an event is among the points.
+#[tactic(auto, using(crate::proofs::Known::known_low, crate::proofs::Known::known_high))]
 fn is_known(image: &[u8], key: Key) -> bool
     ensures { result ≡ key_known (points_of image.now) key }
 {
-    if key.kind < 4 {
-        return true;
-    }
-    match fields::point_of(image, key.point) {
-        PointFound::Is(_) => true,
-        PointFound::Nothing => false,
-    }
+    key.kind < 4 || fields::point_of(image, key.point).is_some()
 }
 
 // Any record, behind the last one: right by itself, in order, its point known.

@@ -1,6 +1,6 @@
 -- A sound frame for this card answered. Document 01, "Frames", the four rules of the link; 7 of "What a gap answers".
 -- Assumes nothing.
-use Rattle.std.specs.Prelude.{ℕ, not, ◌||◌, List, [], ltb, eqb, replicate}
+use Rattle.std.specs.Prelude.{ℕ, not, ◌||◌, List, [], ltb, eqb, replicate, Option, Some, None}
 use Rattle.octets.specs.Choice.{when◌then◌else◌}
 use Rattle.octets.specs.First.{◌⇒◌▸◌, first_of◌else◌}
 use Rattle.octets.specs.declared.Kept.{Kept}
@@ -11,8 +11,6 @@ use Rattle.frame.specs.declared.Reply.{Reply}
 use Rattle.frame.specs.declared.Service.{Service}
 use Rattle.frame.specs.declared.Service.TheVariants as service
 use Rattle.frame.specs.Writing.{plain}
-use Rattle.fields.specs.declared.IdentityFound.{IdentityFound}
-use Rattle.fields.specs.declared.IdentityFound.TheVariants.{Is, Nothing}
 use Rattle.fields.specs.Answers.{identity_found}
 use Rattle.deeds.specs.declared.Order.TheVariants as order
 use Rattle.deeds.specs.declared.Carried.{Carried}
@@ -24,11 +22,12 @@ use Rattle.link.specs.declared.Sends.{Sends}
 use Rattle.link.specs.declared.Sends.TheVariants.{NotReset, Remembered, Status}
 use Rattle.link.specs.declared.Answered.{Answered}
 use Rattle.link.specs.State.{data_reply, after_reset, after_new}
+use Rattle.fields.specs.declared.Identity.{Identity}
 
 -- replies carry the link address of the image; an image without a first record has 0
-abbrev pub link_in : IdentityFound → LinkAddress
-link_in (Is identity) = identity.link
-link_in Nothing = record { 0 = 0 }
+abbrev pub link_in : Option Identity → LinkAddress
+link_in (Some identity) = identity.link
+link_in None = record { 0 = 0 }
 
 -- without an order
 unfoldable pub answered_by : Sends → Link → Answered

@@ -6,7 +6,7 @@ ghost use Rattle.link.specs.Answering.{link_in, answered_by, noted, carried, use
 
 use address::LinkAddress;
 use deeds::{Carried, Order, Pending};
-use fields::IdentityFound;
+use fields::Identity;
 use frame::{Control, Reply, Service};
 use message::Header;
 use octets::Kept;
@@ -50,12 +50,12 @@ fn data_reply(message: Kept, address: LinkAddress) -> Reply
     }
 }
 
-fn link_in(found: IdentityFound) -> LinkAddress
+fn link_in(found: Option<Identity>) -> LinkAddress
     ensures { result ≡ link_in found }
 {
     match found {
-        IdentityFound::Is(identity) => identity.link,
-        IdentityFound::Nothing => LinkAddress(0),
+        Some(identity) => identity.link,
+        None => LinkAddress(0),
     }
 }
 

@@ -1,5 +1,6 @@
 -- What the public contracts of this crate do not allow: two wrong outcomes or more of each.
 -- By computation, field by field. Assumes nothing.
+use Rattle.std.specs.Prelude.{Some, None}
 use Prim.Native.Nat.{ℕ, ◌+◌, ◌*◌, ◌/◌, ◌%◌, ◌<◌}
 use mathlib.Core.Bool.{true, false, false≢true}
 use mathlib.Core.List.{List, [], ◌∷◌}
@@ -17,7 +18,6 @@ use Rattle.octets.specs.declared.Kept.{Kept}
 use Rattle.message.specs.declared.Addresses.TheVariants.{Only}
 use Rattle.message.specs.declared.Deed.TheVariants.{GivesData, SetsClock}
 use Rattle.message.specs.declared.Row.{Row}
-use Rattle.message.specs.declared.RowFound.TheVariants.{Is, Nothing}
 use Rattle.message.specs.Calls.{Offered}
 use Rattle.message.specs.Headers.{header_of, header_octets, t_of}
 use Rattle.message.specs.Requests.{asks_readings, labels_from, request_of}
@@ -41,24 +41,24 @@ kept octets length = record { octets = octets; length = length }
 
 module _ (κs : Lfts 0) where
   -- a 181 of 14 octets listed
-  row_of_octets : RuledOut (row_of.Post κs) (181, tt) (Is (row 181 1 14 6 (Only 0) SetsClock))
+  row_of_octets : RuledOut (row_of.Post κs) (181, tt) (Some (row 181 1 14 6 (Only 0) SetsClock))
   unfolding table row_in
   row_of_octets s p =
       let same : row 181 1 14 6 (Only 0) SetsClock ≡ row 181 1 13 6 (Only 0) SetsClock = cc in
       omega (arith, ap (λ (r : Row). r.octets) same)
 
   -- a 187 that is not listed
-  row_of_last : RuledOut (row_of.Post κs) (187, tt) Nothing
+  row_of_last : RuledOut (row_of.Post κs) (187, tt) None
   unfolding table row_in
   row_of_last s p = never (cc)
 
   -- a signature, type 128, listed, with whatever N, octets and cause
-  row_of_signature : (r : Row) → RuledOut (row_of.Post κs) (128, tt) (Is r)
+  row_of_signature : (r : Row) → RuledOut (row_of.Post κs) (128, tt) (Some r)
   unfolding table row_in
   row_of_signature r s p = never (cc)
 
   -- a 122 answered by the row of a 123, which differs in the type alone
-  row_of_neighbour : RuledOut (row_of.Post κs) (122, tt) (Is (row 123 1 18 6 (Only 11) GivesData))
+  row_of_neighbour : RuledOut (row_of.Post κs) (122, tt) (Some (row 123 1 18 6 (Only 11) GivesData))
   unfolding table row_in
   row_of_neighbour s p = never (cc)
 

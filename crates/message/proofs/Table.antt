@@ -1,5 +1,6 @@
 -- Looking a type up, a row at a time; what holds of each row holds of the one that is found.
 -- By the rows that are left. Assumes nothing.
+use Rattle.std.specs.Prelude.{Option, Some, None}
 use Prim.Native.Nat.{ℕ, ◌+◌, ◌<◌, ◌≤◌}
 use mathlib.Core.Bool.{Bool, true, ◌&&◌}
 use mathlib.Core.List.{List, [], ◌∷◌}
@@ -12,8 +13,6 @@ use lib.Seq.{drop-cons}
 use Rattle.message.specs.declared.Row.{Row}
 use Rattle.octets.proofs.Choice.{either}
 use Rattle.octets.proofs.Conditions.{and_left, and_right}
-use Rattle.message.specs.declared.RowFound.{RowFound}
-use Rattle.message.specs.declared.RowFound.TheVariants.{Is, Nothing}
 use Rattle.message.specs.Table.{row_in}
 
 abbrev pub every : (Row → Bool) → List Row → Bool
@@ -21,7 +20,7 @@ every test [] = true
 every test (r ∷ rs) = test r && every test rs
 
 module _ (rows : List Row) (type i : ℕ) (none : Row) where
-  pub row_here : i < length rows → (get_or rows i none).type_id ≡ type → row_in (drop i rows) type ≡ Is (get_or rows i none)
+  pub row_here : i < length rows → (get_or rows i none).type_id ≡ type → row_in (drop i rows) type ≡ Some (get_or rows i none)
   unfolding row_in
   row_here h e = rw (drop-cons rows i none h, eq-eqb (get_or rows i none).type_id type e)
 
@@ -29,13 +28,13 @@ module _ (rows : List Row) (type i : ℕ) (none : Row) where
   unfolding row_in
   row_further h e = rw (drop-cons rows i none h, ne_eqb (get_or rows i none).type_id type e, add-one)
 
-pub row_none : (rows : List Row) (type i : ℕ) → length rows ≤ i → row_in (drop i rows) type ≡ Nothing
+pub row_none : (rows : List Row) (type i : ℕ) → length rows ≤ i → row_in (drop i rows) type ≡ None
 unfolding row_in
 row_none rows type i h = rw (drop_of_length-le rows h)
 
 -- what holds of each listed row of a type, and where none is found, holds of what is found; `test` is any that all rows pass
-pub by_row : (P : RowFound → Type 0) (test : Row → Bool) (rows : List Row) (type : ℕ) → every test rows ≡ true
-    → ((r : Row) → r.type_id ≡ type → test r ≡ true → P (Is r)) → P Nothing → P (row_in rows type)
+pub by_row : (P : Option Row → Type 0) (test : Row → Bool) (rows : List Row) (type : ℕ) → every test rows ≡ true
+    → ((r : Row) → r.type_id ≡ type → test r ≡ true → P (Some r)) → P None → P (row_in rows type)
 unfolding row_in
 by_row P test [] type each f g = g
 by_row P test (r ∷ rs) type each f g =

@@ -1,14 +1,12 @@
 -- The ten requests: type, N, octets, cause, record addresses, and what each does when it is accepted. Document 01, "Messages", the table.
 -- Assumes nothing.
-use Rattle.std.specs.Prelude.{ℕ, List, [], ◌∷◌, eqb}
+use Rattle.std.specs.Prelude.{ℕ, List, [], ◌∷◌, eqb, Option, Some, None}
 use Rattle.octets.specs.Choice.{when◌then◌else◌}
 use Rattle.message.specs.declared.Addresses.{Addresses}
 use Rattle.message.specs.declared.Addresses.TheVariants.{Only, Events}
 use Rattle.message.specs.declared.Deed.{Deed}
 use Rattle.message.specs.declared.Deed.TheVariants.{Opens, Closes, Gives71, Gives72, Gives131, GivesData, SetsClock, SetsDates}
 use Rattle.message.specs.declared.Row.{Row}
-use Rattle.message.specs.declared.RowFound.{RowFound}
-use Rattle.message.specs.declared.RowFound.TheVariants.{Is, Nothing}
 
 -- `Events`: 52 to 55, 128, 129, the record addresses that events of an image have (`image/specs/Image`, `event_record`). `GivesData` is mirror 7, the data, mirror 10
 abbrev pub row : ℕ → ℕ → ℕ → ℕ → Addresses → Deed → Row
@@ -30,6 +28,6 @@ table =
     ∷ []
 
 -- the row of a type
-unfoldable pub row_in : List Row → ℕ → RowFound
-row_in [] type = Nothing
-row_in (r ∷ rs) type = when eqb r.type_id type then Is r else row_in rs type
+unfoldable pub row_in : List Row → ℕ → Option Row
+row_in [] type = None
+row_in (r ∷ rs) type = when eqb r.type_id type then Some r else row_in rs type

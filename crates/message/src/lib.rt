@@ -73,12 +73,6 @@ pub struct Row {
     pub deed: Deed,
 }
 
-#[derive(Clone, Copy)]
-pub enum RowFound {
-    Is(Row),
-    Nothing,
-}
-
 const TABLE: [Row; 10] = [
     Row {
         type_id: 100,
@@ -163,7 +157,7 @@ const TABLE: [Row; 10] = [
 ];
 
 // The row of a type.
-pub fn row_of(type_id: u8) -> RowFound
+pub fn row_of(type_id: u8) -> Option<Row>
     ensures { result ≡ row_in table type_id }
 {
     let rows = TABLE;
@@ -171,11 +165,11 @@ pub fn row_of(type_id: u8) -> RowFound
     while i < 10 {
         let row = rows[i];
         if row.type_id == type_id {
-            return RowFound::Is(row);
+            return Some(row);
         }
         i += 1;
     }
-    RowFound::Nothing
+    None
 }
 
 // 122 and 123 ask for readings.

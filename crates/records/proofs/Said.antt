@@ -10,7 +10,7 @@ use Rattle.octets.specs.Choice.{when◌then◌else◌}
 use Rattle.octets.proofs.Choice.{not_both}
 use Rattle.octets.proofs.Conditions.{and_left, and_right}
 use Rattle.records.specs.Records.{whole_at, record_at, records_from, place_after}
-use Rattle.records.specs.Said.{every, keep, places_of}
+use Rattle.records.specs.Said.{every, keep, places_of, places_behind}
 use Rattle.records.proofs.Records.{from_end, from_more, after_whole}
 
 module _ (f : List ℕ → Bool) (s : List ℕ) (at : ℕ) where
@@ -70,3 +70,8 @@ keep_within f g so (r ∷ rs) = by_tests (keep_within f g so rs) (g r) (f r) ref
     by_tests rest true false p q = rw q rest
     by_tests rest false true p q = absurd (not_both p (so r q))
     by_tests rest false false p q = rest
+
+-- the places from a place on, where a record stands there: the place, and those behind the record
+pub places_behind_more : (s : List ℕ) (at : ℕ) → whole_at s at ≡ true → places_behind s at ≡ at ∷ places_behind s (place_after s at)
+unfolding places_behind
+places_behind_more s at e = places_hit (λ r. true) s at e refl

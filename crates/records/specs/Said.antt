@@ -2,6 +2,7 @@
 -- Assumes nothing.
 use Rattle.std.specs.Prelude.{ℕ, ◌+◌, Bool, true, ◌&&◌, List, [], ◌∷◌, length}
 use Rattle.octets.specs.Choice.{when◌then◌else◌}
+use Rattle.records.specs.Records.{records_from}
 
 -- each is as the test says
 unfoldable pub every : (List ℕ → Bool) → List (List ℕ) → Bool
@@ -26,3 +27,7 @@ how_many f rs = length (keep f rs)
 unfoldable pub places_of : (List ℕ → Bool) → ℕ → List (List ℕ) → List ℕ
 places_of f at [] = []
 places_of f at (r ∷ rs) = when f r then at ∷ places_of f (at + length r) rs else places_of f (at + length r) rs
+
+-- the places of all whole records from a place on
+unfoldable pub places_behind : List ℕ → ℕ → List ℕ
+places_behind s at = places_of (λ r. true) at (records_from s at)

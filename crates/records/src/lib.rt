@@ -1,7 +1,9 @@
 #![tactic(auto)]
 // The records of any octets: whether a whole record stands at a place, its kind, and the place after it.
 ghost use Rattle.std.specs.Prelude.{◌≡◌, ◌≤◌};
+ghost use Rattle.std.specs.Iterator.{YieldsFirst, item_count};
 ghost use Rattle.records.specs.Records.{length_of, whole_at, kind_at, place_after};
+ghost use Rattle.records.specs.Said.{places_behind};
 
 // The length that a record of a kind has, and 0 for what is no kind.
 pub fn length_of(kind: u8) -> u16
@@ -55,4 +57,29 @@ pub fn after(s: &[u8], at: usize) -> usize
         return at + 2 + length_of(s[at + 2]) as usize;
     }
     at
+}
+
+// The places of the whole records from a place on, one behind the other: what every walk over records goes by.
+#[derive(Clone, Copy)]
+pub struct PlacesFrom<'a> {
+    pub octets: &'a [u8],
+    pub at: usize,
+}
+
+impl<'a> Iterator for PlacesFrom<'a> {
+    type Item = usize;
+
+    ghost next_gives = { YieldsFirst (λ s. places_behind s.octets.now s.at) };
+
+    ghost remaining = { item_count (λ s. places_behind s.octets.now s.at) };
+
+    fn next(&mut self) -> Option<usize> {
+        let at = self.at;
+        let next = after(self.octets, at);
+        if at < next {
+            self.at = next;
+            return Some(at);
+        }
+        None
+    }
 }

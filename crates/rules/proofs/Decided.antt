@@ -1,5 +1,6 @@
 -- The rule that `decide` gives holds, and none before it does: where a rule applies, none behind it in document 01's order is given.
 -- By the law of the first that applies, over the rules of all messages and then those by type. Assumes nothing.
+use Rattle.std.specs.Prelude.{Some}
 use Prim.Native.Nat.{ℕ, ◌≤◌, ◌<◌}
 use mathlib.Core.Bool.{Bool, true, false, not, ◌&&◌, ◌||◌, and-false, or-false, false≢true}
 use mathlib.Core.List.{List, [], ◌∷◌, ◌++◌}
@@ -14,10 +15,8 @@ use Rattle.octets.proofs.First.{Gives, none, here, later, first_gives}
 use Rattle.address.specs.declared.PointAddress.{PointAddress}
 use Rattle.message.specs.declared.Request.{Request}
 use Rattle.message.specs.declared.Row.{Row}
-use Rattle.message.specs.declared.RowFound.TheVariants as row
 use Rattle.message.specs.Requests.{objects_offered, asks_readings}
 use Rattle.message.specs.Table.{table, row_in}
-use Rattle.fields.specs.declared.PointFound.TheVariants as point
 use Rattle.fields.specs.Answers.{point_found, dates_found}
 use Rattle.rules.proofs.Rules.{place, only_objects}
 use Rattle.rules.specs.declared.Session.{Session}
@@ -116,7 +115,7 @@ module _ (session : Session) (image clock : List ℕ) (r : Request) where
   passed last rule before = none_before rule (omega (arith, before, ap place last))
 
   -- what is accepted has as many octets as its row says
-  pub accepted_octets : given ≡ Accepted → (w : Row) → row_in table r.header.type_id ≡ row.Is w → r.octets ≡ w.octets
+  pub accepted_octets : given ≡ Accepted → (w : Row) → row_in table r.header.type_id ≡ Some w → r.octets ≡ w.octets
   accepted_octets last w found =
       let shape : shaped (row_in table r.header.type_id) r ≡ true = flipped _ _ (sym (or-false _) ∙ passed last Shape (omega arith)) in
       eqb-true _ _ (and_left (eqb r.octets w.octets) _ (and_right (eqb r.header.structure w.count) _ (rw found at shape)))
@@ -161,7 +160,7 @@ module _ (session : Session) (image clock : List ℕ) (r : Request) where
   -- a 183 in its shape and with its point's own password is accepted in whatever session
   pub opened : marked r.header.cause ≡ false → r.header.type_id ≡ 183 → shaped (row_in table r.header.type_id) r ≡ true
       → addressed (row_in table r.header.type_id) r.header.record_address ≡ true → (number : ℕ)
-      → point_found r.header.point image ≡ point.Is (record { number = number; password = r.password }) → given ≡ Accepted
+      → point_found r.header.point image ≡ Some (record { number = number; password = r.password }) → given ≡ Accepted
   unfolding decide by_type asks_readings table row_in
   opened unmarked type shape address number found =
       rw (

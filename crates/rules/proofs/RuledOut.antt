@@ -1,5 +1,6 @@
 -- What the public contracts of this crate do not allow: two wrong outcomes or more of each.
 -- Where a rule applies, none behind it in document 01's order is given. Assumes nothing.
+use Rattle.std.specs.Prelude.{Some, None}
 use Prim.Native.Nat.{ℕ, ◌<◌}
 use mathlib.Core.Bool.{true, false, and-false}
 use mathlib.Core.List.{List, [], ◌∷◌}
@@ -22,8 +23,6 @@ use Rattle.message.specs.declared.Request.{Request}
 use Rattle.message.specs.Requests.{objects_offered, asks_readings}
 use Rattle.message.specs.Table.{table, row_in}
 use Rattle.fields.specs.declared.Point.{Point}
-use Rattle.fields.specs.declared.PointFound.TheVariants as point
-use Rattle.fields.specs.declared.DatesFound.TheVariants as dates
 use Rattle.fields.specs.Answers.{point_found, dates_found}
 use Rattle.choice.specs.declared.Span.{Span}
 use Rattle.choice.specs.declared.Query.TheVariants.{Reading, Event}
@@ -80,12 +79,12 @@ module _ (κs : Lfts 1) (image : Bor (List ℕ)) (clock : List ℕ) (r : Request
   decide_point_first closed other = decide_behind NoSession UnknownPoint (rw (closed, ne_eqb type 183 other)) (omega arith)
 
   -- another session looked at before the point: refused for its session where the point is not in the image
-  decide_other_first : point_found head.point image.now ≡ point.Nothing
+  decide_other_first : point_found head.point image.now ≡ None
       → RuledOut (decide.Post κs) (session, (image, (clock, (r, tt)))) OtherSession
   decide_other_first e = decide_behind UnknownPoint OtherSession (rw e) (omega arith)
 
   -- a message accepted whose point is not in the image, a 183 too
-  decide_no_point : point_found head.point image.now ≡ point.Nothing
+  decide_no_point : point_found head.point image.now ≡ None
       → RuledOut (decide.Post κs) (session, (image, (clock, (r, tt)))) Accepted
   decide_no_point e = decide_behind UnknownPoint Accepted (rw e) (omega arith)
 
@@ -157,7 +156,7 @@ module _ (κs : Lfts 1) (image : Bor (List ℕ)) (clock : List ℕ) (r : Request
   decide_clock is e = decide_behind ClockUnset Accepted (rw (e, is)) (omega arith)
 
   -- the label looked at before the dates: cause 7 for a 186 where the image has no switch dates
-  decide_label_first : type ≡ 186 → dates_found image.now ≡ dates.Nothing
+  decide_label_first : type ≡ 186 → dates_found image.now ≡ None
       → RuledOut (decide.Post κs) (session, (image, (clock, (r, tt)))) TimeLabel
   decide_label_first is e = decide_behind NoDates TimeLabel (rw (e, is)) (omega arith)
 
@@ -167,14 +166,14 @@ module _ (κs : Lfts 1) (image : Bor (List ℕ)) (clock : List ℕ) (r : Request
   decide_time is e = decide_behind TimeLabel Accepted (rw (e, is)) (omega arith)
 
   -- a 183 accepted with a password that is not its point's, whatever other point has it
-  decide_wrong_password : (found : Point) → type ≡ 183 → point_found head.point image.now ≡ point.Is found → (found.password ≡ r.password → ⊥)
+  decide_wrong_password : (found : Point) → type ≡ 183 → point_found head.point image.now ≡ Some found → (found.password ≡ r.password → ⊥)
       → RuledOut (decide.Post κs) (session, (image, (clock, (r, tt)))) Accepted
   decide_wrong_password found is e wrong = decide_behind WrongPassword Accepted (rw (e, ne_eqb found.password r.password wrong, is)) (omega arith)
 
   -- a 183 in its shape and with its point's own password refused, by any rule and in whatever session
   decide_right_password : (rule : Rule) → place rule < 18 → marked head.cause ≡ false → type ≡ 183 → shaped (row_in table type) r ≡ true
       → addressed (row_in table type) head.record_address ≡ true → (number : ℕ)
-      → point_found head.point image.now ≡ point.Is (record { number = number; password = r.password })
+      → point_found head.point image.now ≡ Some (record { number = number; password = r.password })
       → RuledOut (decide.Post κs) (session, (image, (clock, (r, tt)))) rule
   decide_right_password rule before unmarked is shape address number found s p =
       omega (arith, ap place p, ap place (opened session image.now clock r unmarked is shape address number found))

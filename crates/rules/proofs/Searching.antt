@@ -1,5 +1,6 @@
 -- Whether anything is chosen, told by the first place that is found, or by none.
 -- There are as many places as chosen records. Assumes nothing.
+use Rattle.std.specs.Prelude.{Some, None}
 use Prim.Native.Nat.{ℕ, ◌<◌, ◌≤◌}
 use mathlib.Core.Bool.{true, false}
 use mathlib.Core.List.{List}
@@ -12,20 +13,19 @@ use Rattle.records.specs.Said.{how_many, places_of}
 use Rattle.records.proofs.Places.{as_many_places}
 use Rattle.fields.specs.Answers.{records_of}
 use Rattle.choice.specs.declared.Query.{Query}
-use Rattle.choice.specs.declared.Found.TheVariants.{At, Nothing}
 use Rattle.choice.specs.Choice.{chosen, choice}
 use Rattle.choice.specs.Calls.{places_from, nth_place}
 use Rattle.choice.proofs.Laws.{found_there, nothing_nth}
 use Rattle.rules.specs.Decide.{none_in}
 
 module _ (query : Query) (image : List ℕ) where
-  pub some_chosen : (at : ℕ) → nth_place 0 (places_from query image 1) ≡ At at → none_in query image ≡ false
+  pub some_chosen : (at : ℕ) → nth_place 0 (places_from query image 1) ≡ Some at → none_in query image ≡ false
   unfolding none_in choice records_of how_many
   some_chosen at e =
       let h : 0 < length (choice query image) = (found_there query image 1 0 at e).counted in
       ne_eqb (length (choice query image)) 0 (λ z. omega (arith, h, z))
 
-  pub none_chosen : nth_place 0 (places_from query image 1) ≡ Nothing → none_in query image ≡ true
+  pub none_chosen : nth_place 0 (places_from query image 1) ≡ None → none_in query image ≡ true
   unfolding none_in choice records_of how_many places_from
   none_chosen e =
       let h : length (places_of (chosen query) 1 (records_from image 1)) ≤ 0 = nothing_nth 0 _ e in

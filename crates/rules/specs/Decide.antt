@@ -1,6 +1,6 @@
 -- The first rule that applies to a message. Document 01, "First that applies", one line a rule, in its order; 17 as document 02, #101, has it.
 -- Assumes nothing.
-use Rattle.std.specs.Prelude.{ℕ, Bool, true, false, not, ◌&&◌, ◌||◌, List, [], eqb, length}
+use Rattle.std.specs.Prelude.{ℕ, Bool, true, false, not, ◌&&◌, ◌||◌, List, [], eqb, length, Option, Some, None}
 use Rattle.octets.specs.First.{When, ◌⇒◌▸◌, first_of◌else◌}
 use Rattle.address.specs.declared.PointAddress.{PointAddress}
 use Rattle.address.specs.Address.{same_point}
@@ -9,15 +9,9 @@ use Rattle.message.specs.declared.Request.{Request}
 use Rattle.message.specs.declared.Addresses.{Addresses}
 use Rattle.message.specs.declared.Addresses.TheVariants.{Only, Events}
 use Rattle.message.specs.declared.Row.{Row}
-use Rattle.message.specs.declared.RowFound.{RowFound}
-use Rattle.message.specs.declared.RowFound.TheVariants as row
 use Rattle.message.specs.Headers.{t_of, pn_of, cause_of}
 use Rattle.message.specs.Requests.{objects_offered, asks_readings}
 use Rattle.message.specs.Table.{table, row_in}
-use Rattle.fields.specs.declared.PointFound.{PointFound}
-use Rattle.fields.specs.declared.PointFound.TheVariants as point
-use Rattle.fields.specs.declared.DatesFound.{DatesFound}
-use Rattle.fields.specs.declared.DatesFound.TheVariants as dates
 use Rattle.fields.specs.Answers.{point_found, dates_found}
 use Rattle.image.specs.Image.{event_record}
 use Rattle.choice.specs.declared.Span.{Span}
@@ -28,15 +22,17 @@ use Rattle.rules.specs.declared.Session.{Session}
 use Rattle.rules.specs.declared.Session.TheVariants.{Closed, Open}
 use Rattle.rules.specs.declared.Rule.{Rule}
 use Rattle.rules.specs.declared.Rule.TheVariants.{Marked, UnknownType, NoSession, UnknownPoint, OtherSession, Shape, Address, Objects, ReadingLabel, ReadingRange, NoReading, EventLabel, EventRange, NoEvent, ClockUnset, NoDates, TimeLabel, WrongPassword, Accepted}
+use Rattle.fields.specs.declared.Point.{Point}
+use Rattle.fields.specs.declared.Dates.{Dates}
 
 -- T or P/N set
 abbrev pub marked : ℕ → Bool
 marked cause = not (eqb (t_of cause) 0) || not (eqb (pn_of cause) 0)
 
 -- type in the table
-abbrev pub listed : RowFound → Bool
-listed (row.Is r) = true
-listed row.Nothing = false
+abbrev pub listed : Option Row → Bool
+listed (Some r) = true
+listed None = false
 
 -- no session
 abbrev pub is_closed : Session → Bool
@@ -44,9 +40,9 @@ is_closed Closed = true
 is_closed (Open p) = false
 
 -- point in the image
-abbrev pub known : PointFound → Bool
-known (point.Is p) = true
-known point.Nothing = false
+abbrev pub known : Option Point → Bool
+known (Some p) = true
+known None = false
 
 -- session of another point
 abbrev pub is_other : Session → PointAddress → Bool
@@ -57,18 +53,18 @@ is_other (Open p) point = not (same_point p point)
 abbrev pub shaped_as : Row → Request → Bool
 shaped_as w r = eqb r.header.structure w.count && (eqb r.octets w.octets && eqb (cause_of r.header.cause) w.cause)
 
-abbrev pub shaped : RowFound → Request → Bool
-shaped (row.Is w) r = shaped_as w r
-shaped row.Nothing r = false
+abbrev pub shaped : Option Row → Request → Bool
+shaped (Some w) r = shaped_as w r
+shaped None r = false
 
 -- record address as listed
 abbrev pub addressed_as : Addresses → ℕ → Bool
 addressed_as (Only a) address = eqb address a
 addressed_as Events address = event_record address
 
-abbrev pub addressed : RowFound → ℕ → Bool
-addressed (row.Is w) address = addressed_as w.addresses address
-addressed row.Nothing address = false
+abbrev pub addressed : Option Row → ℕ → Bool
+addressed (Some w) address = addressed_as w.addresses address
+addressed None address = false
 
 -- both labels valid; first after last
 unfoldable pub labels_valid : Request → Bool
@@ -85,14 +81,14 @@ unfoldable pub none_in : Query → List ℕ → Bool
 none_in query image = eqb (length (choice query image)) 0
 
 -- with switch dates
-abbrev pub dated : DatesFound → Bool
-dated (dates.Is d) = true
-dated dates.Nothing = false
+abbrev pub dated : Option Dates → Bool
+dated (Some d) = true
+dated None = false
 
 -- the right password of a point
-abbrev pub opens : PointFound → ℕ → Bool
-opens (point.Is p) password = eqb p.password password
-opens point.Nothing password = false
+abbrev pub opens : Option Point → ℕ → Bool
+opens (Some p) password = eqb p.password password
+opens None password = false
 
 -- first that applies
 abbrev pub rules : Session → List ℕ → Request → List (When Rule)

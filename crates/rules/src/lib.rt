@@ -2,7 +2,6 @@
 // Requests: the first rule of document 01 that applies to a message.
 ghost use Rattle.std.specs.Prelude.{◌&&◌, not, false, ◌≡◌, eqb};
 ghost use Rattle.octets.specs.Choice.{when◌then◌else◌};
-ghost use Rattle.message.specs.declared.RowFound.TheVariants as found;
 ghost use Rattle.message.specs.Requests.{objects_offered};
 ghost use Rattle.message.specs.Table.{table, row_in};
 ghost use Rattle.rules.specs.declared.Rule.TheVariants.{Shape, Address, Objects, ReadingLabel, ReadingRange, NoReading, NoDates, TimeLabel, Accepted};
@@ -12,10 +11,10 @@ ghost use Rattle.rules.specs.Rules.{cause_by, pn_by, deed_by};
 ghost use Rattle.rules.specs.Decide.{marked, is_closed, known, is_other, shaped_as, addressed_as, labels_valid, first_after_last, span_of, none_in, dated, opens, by_type, decide};
 
 use address::PointAddress;
-use choice::{Found, Query, Span};
-use fields::{DatesFound, PointFound};
+use choice::{Query, Span};
+use fields::{Dates, Point};
 use label::LabelB;
-use message::{Addresses, Deed, Request, Row, RowFound};
+use message::{Addresses, Deed, Request, Row};
 
 // The password session: closed, or open for a point.
 #[derive(Clone, Copy)]
@@ -131,12 +130,12 @@ fn lacks_session(session: Session, type_id: u8) -> bool
     }
 }
 
-fn is_known(found: PointFound) -> bool
+fn is_known(found: Option<Point>) -> bool
     ensures { result ≡ known found }
 {
     match found {
-        PointFound::Is(_) => true,
-        PointFound::Nothing => false,
+        Some(_) => true,
+        None => false,
     }
 }
 
@@ -200,26 +199,26 @@ fn is_none(image: &[u8], query: Query) -> bool
     ensures { result ≡ none_in query image.now }
 {
     match choice::find(image, query, 0) {
-        Found::At(_) => false,
-        Found::Nothing => true,
+        Some(_) => false,
+        None => true,
     }
 }
 
-fn is_dated(found: DatesFound) -> bool
+fn is_dated(found: Option<Dates>) -> bool
     ensures { result ≡ dated found }
 {
     match found {
-        DatesFound::Is(_) => true,
-        DatesFound::Nothing => false,
+        Some(_) => true,
+        None => false,
     }
 }
 
-fn does_open(found: PointFound, password: u32) -> bool
+fn does_open(found: Option<Point>, password: u32) -> bool
     ensures { result ≡ opens found password }
 {
     match found {
-        PointFound::Is(point) => point.password == password,
-        PointFound::Nothing => false,
+        Some(point) => point.password == password,
+        None => false,
     }
 }
 
@@ -326,7 +325,7 @@ fn by_row(image: &[u8], clock: [u8; 7], request: Request, row: Row) -> Rule
 
 // The rules from the session on, of a message whose type is listed.
 fn listed(session: Session, image: &[u8], clock: [u8; 7], request: Request, row: Row) -> Rule
-    requires { (marked request.header.cause ≡ false) × (row_in table request.header.type_id ≡ found.Is row) }
+    requires { (marked request.header.cause ≡ false) × (row_in table request.header.type_id ≡ Some row) }
     ensures { result ≡ decide session image.now clock request }
 {
     let type_id = request.header.type_id;
@@ -351,7 +350,7 @@ pub fn decide(session: Session, image: &[u8], clock: [u8; 7], request: Request) 
         return Rule::Marked;
     }
     match message::row_of(request.header.type_id) {
-        RowFound::Is(row) => listed(session, image, clock, request, row),
-        RowFound::Nothing => Rule::UnknownType,
+        Some(row) => listed(session, image, clock, request, row),
+        None => Rule::UnknownType,
     }
 }

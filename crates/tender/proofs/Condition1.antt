@@ -1,5 +1,6 @@
 -- Condition 1 holds of our card, and the count of damaged runs is tied to the number.
 -- The definition and the paper's list are walked side by side, test by test; each end is one of four. Assumes nothing.
+use Rattle.std.specs.Prelude.{Option, Some, None}
 use Prim.Native.Nat.{ℕ, ◌≤◌}
 use mathlib.Core.Bool.{Bool, true, false, not, ◌&&◌, ◌||◌}
 use mathlib.Core.List.{List, []}
@@ -16,8 +17,6 @@ use Rattle.frame.specs.declared.Fault.{Fault}
 use Rattle.frame.specs.declared.Fault.TheVariants.{Empty, Long, Parity, Malformed, Spoiled}
 use Rattle.frame.specs.declared.Form.TheVariants as form
 use Rattle.frame.specs.declared.Service.{Service}
-use Rattle.frame.specs.declared.Asked.{Asked}
-use Rattle.frame.specs.declared.Asked.TheVariants.{Is, NotOffered}
 use Rattle.frame.specs.Family.{sapr}
 use Rattle.frame.specs.Frame.{Frame, fixed, variable, Verdict, sound, fixed_form, variable_form, sum_right, start_of, said, judge, fault_number}
 use Rattle.frame.specs.Controls.{offered, asked_by, user_data_law, collects}
@@ -57,7 +56,7 @@ fault_ends card Spoiled = damaged refl refl
 
 -- 7: a service is refused exactly when it counts and there was no reset
 answer_ends : (card : Card) (user : Kept) (image clock : List ℕ) {service : Service} {a : Answered} → Way card.link user image clock service a
-    → Ends card (after_answer card a) (when is_counted (Is service) && not card.link.reset then 7 else 0)
+    → Ends card (after_answer card a) (when is_counted (Some service) && not card.link.reset then 7 else 0)
 unfolding after_answer answered_by noted carried replied_by left_with
 answer_ends card user image clock as_reset = answers refl refl
 answer_ends card user image clock as_status = answers refl refl
@@ -78,11 +77,11 @@ module _ (card : Card) (loan : Loan) where
   ExaminedEnds x n = Ends card (after_examining card x loan.image loan.clock) n
 
   -- 6 and 7
-  heard_ends : (asked : Asked) (user : List ℕ)
+  heard_ends : (asked : Option Service) (user : List ℕ)
       → ExaminedEnds (heard asked user) (when is_not_offered asked then 6 else when is_counted asked && not card.link.reset then 7 else 0)
   unfolding after_examining
-  heard_ends NotOffered user = gone refl refl
-  heard_ends (Is service) user = answer_ends card _ loan.image loan.clock (way card.link _ loan.image loan.clock service)
+  heard_ends None user = gone refl refl
+  heard_ends (Some service) user = answer_ends card _ loan.image loan.clock (way card.link _ loan.image loan.clock service)
 
   -- 5
   frame_ends : (f : Frame) → ExaminedEnds (examined_verdict loan.image (sound f))

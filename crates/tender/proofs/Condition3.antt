@@ -1,5 +1,6 @@
 -- Condition 3 holds of our card, in each profile: noise goes unnoticed; and a sound frame with exactly one octet changed is noise.
 -- By the laws of a deaf machine, kept being a collector that some run has left. Assumes nothing.
+use Rattle.std.specs.Prelude.{Option, Some, None}
 use Prim.Native.Nat.{ℕ}
 use mathlib.Core.Bool.{Bool, true, not, ◌||◌}
 use mathlib.Core.List.{List, [], ◌∷◌, ◌++◌}
@@ -14,8 +15,6 @@ use Rattle.history.specs.History.{fed}
 use Rattle.history.proofs.Invariant.{Invariant}
 use Rattle.history.proofs.Noise.{Deaf, unnoticed}
 use Rattle.frame.specs.declared.Fault.{Fault}
-use Rattle.frame.specs.declared.Asked.{Asked}
-use Rattle.frame.specs.declared.Asked.TheVariants as asked
 use Rattle.frame.specs.declared.Form.TheVariants as form
 use Rattle.frame.specs.Family.{sapr}
 use Rattle.frame.specs.Frame.{fixed, variable, Verdict, refused, sound, fixed_form, variable_form, start_of, sum_right, judge, fault_number}
@@ -50,6 +49,7 @@ use Rattle.card.proofs.Examining.{run_only}
 use Rattle.tender.specs.Card.{Loan, seen_of, outcome_at, our_gap, ours, our_card}
 use Rattle.tender.specs.Condition3.{Fit, Noise, Alike, Mute, Condition3, OneOctetNoise}
 use Rattle.tender.proofs.Gaps.{fit_gap, rested_gap}
+use Rattle.frame.specs.declared.Service.{Service}
 
 -- a run that is not empty is sound or damaged
 abbrev Damaged : Verdict → Type 0
@@ -83,9 +83,9 @@ Ends (Asks service) = Unit {0}
 abbrev ExaminedEnds : Examined → Type 0
 ExaminedEnds x = Ends x.finding
 
-asked_ends : (a : Asked) (user : List ℕ) → ExaminedEnds (heard a user)
-asked_ends asked.NotOffered user = tt
-asked_ends (asked.Is service) user = tt
+asked_ends : (a : Option Service) (user : List ℕ) → ExaminedEnds (heard a user)
+asked_ends None user = tt
+asked_ends (Some service) user = tt
 
 verdict_ends : (image : List ℕ) (v : Verdict) → Damaged v → ExaminedEnds (examined_verdict image v)
 unfolding examined_frame

@@ -1,5 +1,6 @@
 -- What waits is kept short, and so is each message that is given of it: a request of at most 252 octets and a clock of seven give messages
 -- of at most 252 octets. One lemma for each function that gives a message or lets one wait. Assumes nothing.
+use Rattle.std.specs.Prelude.{Option, Some, None}
 use Prim.Native.Nat.{ℕ, ◌≤◌}
 use mathlib.Core.Bool.{Bool, false}
 use mathlib.Core.List.{List, [], ◌∷◌}
@@ -8,10 +9,6 @@ use native.Mathlib.Omega.{arith}
 use lib.Dec.{eqb}
 use lib.ListN.{length, take, drop, length-take}
 use Rattle.octets.proofs.Choice.{either}
-use Rattle.fields.specs.declared.IdentityFound.{IdentityFound}
-use Rattle.fields.specs.declared.IdentityFound.TheVariants as head
-use Rattle.fields.specs.declared.DatesFound.{DatesFound}
-use Rattle.fields.specs.declared.DatesFound.TheVariants as dates
 use Rattle.fields.specs.Answers.{identity_found, dates_found}
 use Rattle.choice.specs.declared.Span.{Span}
 use Rattle.choice.specs.declared.Query.TheVariants.{Reading, Event}
@@ -39,6 +36,8 @@ use Rattle.deeds.specs.Deeds.{deed_of, done_by, carried_out, nothing_pending}
 use Rattle.waiting.specs.declared.Next.{Next}
 use Rattle.waiting.specs.NextReply.{firstly, lastly, nothing_found, reading_type, data_pending, mirror_with, identity_from}
 use Rattle.waiting.specs.NextReply.{asked, dates_from, clock_from, data_from, after_data, begin_with, next_by, next_of}
+use Rattle.fields.specs.declared.Identity.{Identity}
+use Rattle.fields.specs.declared.Dates.{Dates}
 
 -- a message that a frame has room for
 abbrev pub Short : Kept → Type 0
@@ -104,13 +103,13 @@ module _ (request : Kept) (short : Short request) where
   unfolding nothing_found
   nothing_short = record { message = of_octets [] (omega arith); pending = nothing_kept }
 
-  identity_short : (found : IdentityFound) → GivenShort (identity_from request found)
-  identity_short (head.Is h) = lastly_short _ (omega (arith, identity_length (asked request).header.point h))
-  identity_short head.Nothing = mirror_short false 14
+  identity_short : (found : Option Identity) → GivenShort (identity_from request found)
+  identity_short (Some h) = lastly_short _ (omega (arith, identity_length (asked request).header.point h))
+  identity_short None = mirror_short false 14
 
-  dates_short : (found : DatesFound) → GivenShort (dates_from request found)
-  dates_short (dates.Is d) = lastly_short _ (omega (arith, dates_length (asked request).header.point d))
-  dates_short dates.Nothing = mirror_short false 14
+  dates_short : (found : Option Dates) → GivenShort (dates_from request found)
+  dates_short (Some d) = lastly_short _ (omega (arith, dates_length (asked request).header.point d))
+  dates_short None = mirror_short false 14
 
   module _ (clock : List ℕ) (seven : length clock ≡ 7) where
     clock_short : GivenShort (clock_from request clock)

@@ -1,6 +1,7 @@
 -- The statements about objects (document 02, #101) hold of the definition.
 -- A message is a header, objects of six octets one after the other, and a label; the rules see nothing of the objects but whether they are offered.
 -- Assumes nothing.
+use Rattle.std.specs.Prelude.{Option, Some, None}
 use Prim.Native.Nat.{ℕ, ◌+◌, ◌-◌, ◌≤◌, ◌<◌}
 use mathlib.Core.Bool.{Bool, true, false, not, ◌||◌}
 use mathlib.Core.List.{List, [], ◌∷◌}
@@ -20,8 +21,6 @@ use Rattle.label.specs.Label.{label_a_at}
 use Rattle.message.specs.declared.Header.{Header}
 use Rattle.message.specs.declared.ObjectRange.{ObjectRange}
 use Rattle.message.specs.declared.Request.{Request}
-use Rattle.message.specs.declared.RowFound.{RowFound}
-use Rattle.message.specs.declared.RowFound.TheVariants as row
 use Rattle.message.specs.Table.{table, row_in}
 use Rattle.message.specs.Headers.{header_of, header_octets}
 use Rattle.message.specs.Requests.{objects_offered, objects_many, asks_readings, labels_from, request_of}
@@ -30,8 +29,6 @@ use Rattle.message.proofs.Requests.{so_offered}
 use Rattle.choice.specs.declared.Span.{Span}
 use Rattle.choice.specs.declared.Query.{Query}
 use Rattle.choice.specs.declared.Query.TheVariants.{Reading}
-use Rattle.choice.specs.declared.Found.{Found}
-use Rattle.choice.specs.declared.Found.TheVariants.{At, Nothing}
 use Rattle.choice.specs.Choice.{choice}
 use Rattle.choice.specs.Calls.{places_from, nth_place}
 use Rattle.choice.proofs.Chosen.{number_all}
@@ -48,6 +45,7 @@ use Rattle.why.proofs.Stated.{objects_told}
 use Rattle.tender.specs.Rules.{request_in}
 use Rattle.tender.specs.Ranges.{many_in, number_of, ObjectOf, Stands, Carries, ObjectsCarried, OfTheKept, Seventeen, asking, ChosenWhatever, RangesWritten}
 use Rattle.tender.proofs.Worked.{everything}
+use Rattle.message.specs.declared.Row.{Row}
 
 -- a record of an image has octets of the image, and so has a chosen one
 octets_record : (image : List ℕ) (at : ℕ) → Octets image → Octets (record_at image at)
@@ -58,9 +56,9 @@ octets_chosen : (query : Query) (image : List ℕ) (n : ℕ) → Octets image �
 unfolding choice records_of
 octets_chosen query image n octets less = by_found (nth_place n (places_from query image 1)) refl
   where
-    by_found : (found : Found) → nth_place n (places_from query image 1) ≡ found → Octets (get_or (choice query image) n [])
-    by_found (At at) e = rw (found_there query image 1 n at e).nth_chosen (octets_record image at octets)
-    by_found Nothing e = absurd (omega (arith, less, nothing_nth n (places_from query image 1) e, number_all query image))
+    by_found : (found : Option ℕ) → nth_place n (places_from query image 1) ≡ found → Octets (get_or (choice query image) n [])
+    by_found (Some at) e = rw (found_there query image 1 n at e).nth_chosen (octets_record image at octets)
+    by_found None e = absurd (omega (arith, less, nothing_nth n (places_from query image 1) e, number_all query image))
 
 -- the octets of an object are its own
 object_of : (n : ℕ) (r : List ℕ) → Octets r → ObjectOf n r (object_octets n r)
@@ -142,9 +140,9 @@ no_other_type type k asks totals periods = by_either (eqb type 122) refl asks
     by_either false e so = rw (eqb-true type 123 so) periods
 
 -- the shape is that of header and octets
-same_shape : (found : RowFound) (r r' : Request) → r.header ≡ r'.header → r.octets ≡ r'.octets → shaped found r ≡ shaped found r'
-same_shape (row.Is w) r r' header octets = rw (header, octets)
-same_shape row.Nothing r r' header octets = refl
+same_shape : (found : Option Row) (r r' : Request) → r.header ≡ r'.header → r.octets ≡ r'.octets → shaped found r ≡ shaped found r'
+same_shape (Some w) r r' header octets = rw (header, octets)
+same_shape None r r' header octets = refl
 
 pub of_the_kept : OfTheKept
 unfolding data_from request_of

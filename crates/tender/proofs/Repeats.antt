@@ -1,5 +1,6 @@
 -- An answered data or collection frame received again as the next run gets the same reply, gives no order, changes nothing.
 -- Answered, it leaves its FCB as the last and its reply as the remembered one, and that answers it again. Assumes nothing.
+use Rattle.std.specs.Prelude.{Option, Some}
 use Prim.Native.Nat.{ℕ}
 use mathlib.Core.Bool.{Bool, false, true, not}
 use mathlib.Core.List.{List, [], ◌∷◌}
@@ -11,8 +12,6 @@ use Rattle.octets.specs.declared.Kept.{Kept}
 use Rattle.octets.specs.Keeping.{kept_of}
 use Rattle.octets.proofs.Choice.{either}
 use Rattle.history.specs.History.{Symbol, Gap, Call, after, fed, AllFit}
-use Rattle.frame.specs.declared.Asked.{Asked}
-use Rattle.frame.specs.declared.Asked.TheVariants.{Is}
 use Rattle.frame.specs.declared.Service.{Service}
 use Rattle.frame.specs.Family.{sapr}
 use Rattle.frame.specs.Frame.{Frame, fixed, variable, sound}
@@ -51,14 +50,14 @@ module _ (card : Card) (image clock : List ℕ) (asked : Service) where
   abbrev TakenAs : Kept → Examined → Type 0
   TakenAs user x = (after_examining card x image clock).number ≡ 0 → x ≡ record { finding = Asks asked; user = user }
 
-  taken : (f : Frame) → asked_by f ≡ Is asked → TakenAs (user_in f) (examined_verdict image (sound f))
+  taken : (f : Frame) → asked_by f ≡ Some asked → TakenAs (user_in f) (examined_verdict image (sound f))
   unfolding examined_frame after_examining refusal
   taken (fixed c a) asks =
       either (TakenAs (kept_of [])) (not (is_link (identity_found image) (record { 0 = a }))) (λ l e. absurd (omega (arith, e)))
-      (λ l e. ap (λ (x : Asked). heard x []) asks)
+      (λ l e. ap (λ (x : Option Service). heard x []) asks)
   taken (variable c a user) asks =
       either (TakenAs (kept_of user)) (not (is_link (identity_found image) (record { 0 = a }))) (λ l e. absurd (omega (arith, e)))
-      (λ l e. ap (λ (x : Asked). heard x user) asks)
+      (λ l e. ap (λ (x : Option Service). heard x user) asks)
 
 -- from the empty collector, a sound frame for this card
 module _ (p : Profile) {image clock : List ℕ} (run : List (CharacterIn p)) (frame : Frame) (says : judge_in p sapr run ≡ sound frame) (asked : Service)

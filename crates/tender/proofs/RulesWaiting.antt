@@ -1,5 +1,6 @@
 -- Document 01's table, row by row: what the centre collects for an accepted request; one mirror for a refusal; and by what a reading is chosen.
 -- By what its row does; data is that of the crate `waiting`, any other waiting reply is the last. Assumes nothing.
+use Rattle.std.specs.Prelude.{Option, Some, None}
 use Prim.Native.Nat.{ℕ, zero, suc, ◌+◌, ◌≤◌}
 use mathlib.Core.Bool.{true, false≢true}
 use mathlib.Core.List.{List, [], ◌∷◌}
@@ -15,10 +16,6 @@ use Rattle.message.specs.declared.Deed.TheVariants.{Gives71, Gives131, GivesData
 use Rattle.message.specs.Mirror.{pn_bit, mirror_of}
 use Rattle.message.specs.Requests.{asks_readings}
 use Rattle.message.specs.Table.{table, row_in}
-use Rattle.fields.specs.declared.IdentityFound.{IdentityFound}
-use Rattle.fields.specs.declared.IdentityFound.TheVariants as head
-use Rattle.fields.specs.declared.DatesFound.{DatesFound}
-use Rattle.fields.specs.declared.DatesFound.TheVariants as dates
 use Rattle.fields.specs.Answers.{identity_found, dates_found}
 use Rattle.image.specs.Image.{sound_image}
 use Rattle.image.proofs.Soundness.{rules, has_head}
@@ -41,6 +38,8 @@ use Rattle.waiting.specs.NextReply.{firstly, lastly, reading_type, mirror_with, 
 use Rattle.waiting.specs.Collected.{messages_collected, in_groups, events_message, reading_message}
 use Rattle.waiting.proofs.Collected.{nothing_more, events_collected, events_number, readings_collected}
 use Rattle.tender.specs.Rules.{request_in, identity_of, dates_of, events_for, readings_for, between_mirrors, span_in, WaitingRow, waiting_rows, WaitingReplies, OneMirror, ChosenAlone}
+use Rattle.fields.specs.declared.Identity.{Identity}
+use Rattle.fields.specs.declared.Dates.{Dates}
 
 -- what is given last is one message, and nothing more
 once : (pending : Pending) (image : List ℕ) (message : Kept) → next_of pending image ≡ lastly message → (turns : ℕ) → 1 ≤ turns
@@ -50,13 +49,13 @@ once pending image message e zero some = absurd (omega (arith, some))
 once pending image message e (suc turns) some = rw e (ap (message ∷◌) (nothing_more turns image))
 
 -- a sound image has a first record
-head_there : (image : List ℕ) → sound_image image ≡ true → identity_found image ≡ head.Nothing → ⊥
+head_there : (image : List ℕ) → sound_image image ≡ true → identity_found image ≡ None → ⊥
 unfolding identity_found
 head_there image sound = rw (has_head image (rules image sound)) (λ e. omega (arith, ap found_number e))
   where
-    found_number : IdentityFound → ℕ
-    found_number (head.Is h) = 1
-    found_number head.Nothing = 0
+    found_number : Option Identity → ℕ
+    found_number (Some h) = 1
+    found_number None = 0
 
 between_length : (request : Kept) (some : List Kept) → length (between_mirrors request some) ≡ 2 + length some
 between_length request some = omega (arith, length-append some (mirror_of request 0 10 ∷ []))
@@ -84,16 +83,16 @@ module _ (session : Session) (image clock : List ℕ) (request : Kept) (first : 
   unfolding carried_out
   of_row type collected e turns enough = rw (first, e) (collected e turns enough)
 
-  identity_collected : (found : IdentityFound) → identity_found image ≡ found → (found ≡ head.Nothing → ⊥)
+  identity_collected : (found : Option Identity) → identity_found image ≡ found → (found ≡ None → ⊥)
       → Collected (waiting_by Gives71) (identity_of found request)
   unfolding next_of
-  identity_collected (head.Is h) e some = once _ image _ (rw e)
-  identity_collected head.Nothing e some = absurd (some refl)
+  identity_collected (Some h) e some = once _ image _ (rw e)
+  identity_collected None e some = absurd (some refl)
 
-  dates_collected : (found : DatesFound) → dates_found image ≡ found → dated found ≡ true → Collected (waiting_by Gives131) (dates_of found request)
+  dates_collected : (found : Option Dates) → dates_found image ≡ found → dated found ≡ true → Collected (waiting_by Gives131) (dates_of found request)
   unfolding next_of
-  dates_collected (dates.Is d) e some = once _ image _ (rw e)
-  dates_collected dates.Nothing e some = absurd (false≢true some)
+  dates_collected (Some d) e some = once _ image _ (rw e)
+  dates_collected None e some = absurd (false≢true some)
 
   -- mirror 7, events, mirror 10
   events_row : (request_in request).header.type_id ≡ 102 → Collected (waiting_by GivesData) (between_mirrors request (events_for image request))

@@ -1,5 +1,6 @@
 -- A card's cause is that of the rule that is named, and what is named accepted does what the table says.
 -- Of any card that meets document 01's rules, since a rule is named exactly as a message is decided; so of ours. Assumes nothing.
+use Rattle.std.specs.Prelude.{Option, Some, None}
 use Prim.Native.Nat.{ℕ, ◌≤◌, ◌<◌}
 use mathlib.Core.Bool.{Bool, true, false}
 use mathlib.Core.List.{List, ◌++◌}
@@ -14,8 +15,6 @@ use Rattle.history.specs.History.{Each}
 use Rattle.message.specs.declared.Deed.{Deed}
 use Rattle.message.specs.declared.Deed.TheVariants.{Refused}
 use Rattle.message.specs.declared.Request.{Request}
-use Rattle.message.specs.declared.RowFound.{RowFound}
-use Rattle.message.specs.declared.RowFound.TheVariants as row
 use Rattle.message.specs.Headers.{t_of, pn_of, cause_of}
 use Rattle.message.specs.Mirror.{pn_bit, mirror, mirror_of}
 use Rattle.message.specs.Table.{table, row_in}
@@ -43,6 +42,7 @@ use Rattle.tender.specs.Rules.{ack, Answers, link_with, replies_wait, nack_due, 
 use Rattle.tender.specs.Why.{Sent, MirrorOf, RefusedAsNamed, RefusedNotDone, DoneRow, done_row, done_rows, DoneAs, AcceptedAsNamed}
 use Rattle.tender.proofs.RulesWaiting.{◌and◌, mirror_next, waiting_replies}
 use Rattle.tender.proofs.Rules as ours
+use Rattle.message.specs.declared.Row.{Row}
 
 -- a mirror is one
 mirror_of_law : (m : List ℕ) (cause pn : ℕ) → 2 < length m → cause < 64 → pn < 2 → MirrorOf m cause pn (mirror m pn cause)
@@ -78,13 +78,13 @@ module _ (session : Session) (clock : List ℕ) (r : Request) where
   quiet_ruled wrong_time other = (refl, (refl, λ not-it. refl))
   quiet_ruled (refuses small) other = (refl, (refl, λ not-it. refl))
 
-  quiet : (rule : Rule) (found : RowFound) → (rule ≡ Accepted → ⊥) → Quiet rule (deed_of rule found)
-  quiet rule (row.Is w) other = quiet_ruled (ruled rule w.deed) other
-  quiet rule row.Nothing other = quiet_ruled (ruled rule Refused) other
+  quiet : (rule : Rule) (found : Option Row) → (rule ≡ Accepted → ⊥) → Quiet rule (deed_of rule found)
+  quiet rule (Some w) other = quiet_ruled (ruled rule w.deed) other
+  quiet rule None other = quiet_ruled (ruled rule Refused) other
 
-  shut : (found : RowFound) → (done_by WrongPassword session clock r (deed_of WrongPassword found)).session ≡ Closed
-  shut (row.Is w) = refl
-  shut row.Nothing = refl
+  shut : (found : Option Row) → (done_by WrongPassword session clock r (deed_of WrongPassword found)).session ≡ Closed
+  shut (Some w) = refl
+  shut None = refl
 
 -- any card that meets the rules
 module _ (gap : GapCall) (meets : Rules gap) where

@@ -1,5 +1,6 @@
 -- What the link remembers can be written, from power-on on: its address has two octets, and at most 252 user octets count.
 -- By the ways in which a frame is answered; a new reply carries the address of the image lent. Assumes nothing.
+use Rattle.std.specs.Prelude.{Option, Some, None}
 use Prim.Native.Nat.{ℕ, ◌≤◌, ◌<◌}
 use mathlib.Core.Bool.{Bool, not}
 use mathlib.Core.List.{List, []}
@@ -13,11 +14,8 @@ use Rattle.octets.proofs.Choice.{either}
 use Rattle.octets.proofs.Numbers.{Octets, octets_take, octets_drop}
 use Rattle.address.specs.declared.LinkAddress.{LinkAddress}
 use Rattle.records.specs.Records.{size_of, kind_at, record_at}
-use Rattle.fields.specs.declared.IdentityFound.{IdentityFound}
 use Rattle.fields.specs.Parts.{link_of}
 use Rattle.fields.specs.Answers.{identity_found}
-use Rattle.frame.specs.declared.Asked.{Asked}
-use Rattle.frame.specs.declared.Asked.TheVariants.{Is, NotOffered}
 use Rattle.frame.specs.declared.Control.{Control}
 use Rattle.frame.specs.declared.Control.TheVariants as control
 use Rattle.frame.specs.declared.Form.TheVariants as form
@@ -42,6 +40,7 @@ use Rattle.link.proofs.Answering.{Way, as_reset, as_status, not_reset, repeated,
 use Rattle.card.specs.declared.Examined.{Examined}
 use Rattle.card.specs.Examining.{is_link, heard, examined_frame, examined_verdict, examined}
 use Rattle.tender.proofs.Lengths.{Short, Holds, nothing_kept, next_short, carried_kept}
+use Rattle.fields.specs.declared.Identity.{Identity}
 
 -- a reply that can be written
 pub record CanWrite (reply : Reply) : Type 0 where
@@ -66,7 +65,7 @@ two_octets r o = number_small 2 3 r o
 image_address : (image : List ℕ) → Octets image → (link_in (identity_found image)).0 < 65536
 unfolding identity_found record_at
 image_address image o =
-    either (λ (found : IdentityFound). (link_in found).0 < 65536) (eqb (kind_at image 1) 1)
+    either (λ (found : Option Identity). (link_in found).0 < 65536) (eqb (kind_at image 1) 1)
     (λ _. two_octets _ (octets_take (size_of (drop 1 image)) (drop 1 image) (octets_drop 1 image o)))
     (λ _. omega arith)
 
@@ -78,10 +77,10 @@ none_short : Short (kept_of [])
 unfolding kept_of
 none_short = omega arith
 
-asked_short : (asked : Asked) (user : List ℕ) → length user ≤ 252 → ShortHeard (heard asked user)
+asked_short : (asked : Option Service) (user : List ℕ) → length user ≤ 252 → ShortHeard (heard asked user)
 unfolding kept_of
-asked_short NotOffered user few = none_short
-asked_short (Is service) user few = few
+asked_short None user few = none_short
+asked_short (Some service) user few = few
 
 of_run : (image run : List ℕ) (wrong : Bool) (v : Verdict) → judge_marked sapr wrong run ≡ v → ShortHeard (examined_verdict image v)
 unfolding examined_frame

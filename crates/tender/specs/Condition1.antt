@@ -2,14 +2,12 @@
 -- in document 01; a refusal changes neither the reply buffer nor the link and session."
 -- "May be given", "each call ends": the card's calls are functions of every card, character, image, clock and buffer (`CallsOf`); that the code's are
 -- too, and end, is what its proof means. The other clauses are the fields of `Condition1`. Assumes nothing.
-use Rattle.std.specs.Prelude.{ℕ, Bool, true, false, not, ◌&&◌, ◌||◌, List, [], ◌≡◌, ltb, eqb, length}
+use Rattle.std.specs.Prelude.{ℕ, Bool, true, false, not, ◌&&◌, ◌||◌, List, [], ◌≡◌, ltb, eqb, length, Option, Some, None}
 use Rattle.octets.specs.Choice.{when◌then◌else◌}
 use Rattle.octets.specs.First.{When, ◌⇒◌▸◌, first_of◌else◌}
 use Rattle.history.specs.History.{Stepped}
 use Rattle.address.specs.declared.LinkAddress.{LinkAddress}
 use Rattle.frame.specs.declared.Service.TheVariants.{Reset, UserData, Status, Collection}
-use Rattle.frame.specs.declared.Asked.{Asked}
-use Rattle.frame.specs.declared.Asked.TheVariants.{Is, NotOffered}
 use Rattle.frame.specs.Family.{sapr}
 use Rattle.frame.specs.Frame.{Frame, fixed, variable, fixed_form, variable_form, sum_right, start_of, said}
 use Rattle.frame.specs.Controls.{asked_by}
@@ -23,22 +21,23 @@ use Rattle.deeds.specs.declared.Order.TheVariants as order
 use Rattle.card.specs.declared.Card.{Card}
 use Rattle.card.specs.Examining.{is_link}
 use Rattle.tender.specs.Card.{Loan, Seen, no_time, AnyCard}
+use Rattle.frame.specs.declared.Service.{Service}
 
 -- the link address of a frame; whether what it asks is not offered; whether it is function 3 or 11
 abbrev pub link_of : Frame → LinkAddress
 link_of (fixed c a) = record { 0 = a }
 link_of (variable c a user) = record { 0 = a }
 
-abbrev pub is_not_offered : Asked → Bool
-is_not_offered NotOffered = true
-is_not_offered (Is service) = false
+abbrev pub is_not_offered : Option Service → Bool
+is_not_offered None = true
+is_not_offered (Some service) = false
 
-abbrev pub is_counted : Asked → Bool
-is_counted NotOffered = false
-is_counted (Is Reset) = false
-is_counted (Is (UserData bit)) = true
-is_counted (Is Status) = false
-is_counted (Is (Collection bit)) = true
+abbrev pub is_counted : Option Service → Bool
+is_counted None = false
+is_counted (Some Reset) = false
+is_counted (Some (UserData bit)) = true
+is_counted (Some Status) = false
+is_counted (Some (Collection bit)) = true
 
 -- document 01, "What a gap answers", and #104's 10, a parity bit wrong, between 2 and 3: when each number is due, in its order
 abbrev pub refusals : Card → Loan → List (When ℕ)

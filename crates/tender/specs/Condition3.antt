@@ -5,11 +5,10 @@
 -- or collection frame, received again as the next run, gets the same reply, gives no order and changes nothing."
 -- The first four sentences are `Condition3`, the fifth is `OneOctetNoise`, the last is `Repeats`. An octet is a character of the profile: with eleven bits its
 -- parity bit comes with it. Assumes nothing.
-use Rattle.std.specs.Prelude.{ℕ, ◌≤◌, ◌<◌, Bool, true, false, List, [], ◌∷◌, ◌≡◌, length, get_or, drop, set}
+use Rattle.std.specs.Prelude.{ℕ, ◌≤◌, ◌<◌, Bool, true, false, List, [], ◌∷◌, ◌≡◌, length, get_or, drop, set, Some}
 use Rattle.history.specs.History.{Event, Symbol, Gap, Call, Stepped, AllFit, Each}
 use Rattle.history.specs.Noise.{Noised, inserted, remaining}
 use Rattle.frame.specs.declared.Service.{Service}
-use Rattle.frame.specs.declared.Asked.TheVariants.{Is}
 use Rattle.frame.specs.Family.{sapr}
 use Rattle.frame.specs.Frame.{Frame, sound}
 use Rattle.frame.specs.Controls.{asked_by, Counts}
@@ -69,7 +68,7 @@ pub record Counting (p : Profile) (run : List (CharacterIn p)) : Type 0 where
   pub service : Service
   pub bit : ℕ
   pub is_sound : judge_in p sapr run ≡ sound frame
-  pub asks : asked_by frame ≡ Is service
+  pub asks : asked_by frame ≡ Some service
   pub counts : Counts service bit
 
 -- what two receptions of one frame do, one after the other, the second with this buffer lent

@@ -1,7 +1,7 @@
 -- Document 01's rules of the link, of orders, of the session and of what waits, one by one, each beside the paper's sentence: first as statements about any
 -- card's gap, collected in `Rules`, then about the definitions that these cite. What a card leaves is spelled part by part, so that a part which changes
 -- where it may not is seen. `P ⊎ Q` says: P or Q. Assumes nothing.
-use Rattle.std.specs.Prelude.{ℕ, ◌≤◌, Bool, true, false, ◌||◌, List, [], ◌∷◌, ◌++◌, map, ◌⊎◌, ◌≡◌, ltb, length, drop, replicate}
+use Rattle.std.specs.Prelude.{ℕ, ◌≤◌, Bool, true, false, ◌||◌, List, [], ◌∷◌, ◌++◌, map, ◌⊎◌, ◌≡◌, ltb, length, drop, replicate, Option, Some, None}
 use Rattle.octets.specs.Over.{laid_in}
 use Rattle.history.specs.History.{Stepped, Each}
 use Rattle.address.specs.declared.LinkAddress.{LinkAddress}
@@ -19,10 +19,6 @@ use Rattle.message.specs.Mirror.{pn_bit}
 use Rattle.octets.specs.Keeping.{octets_of, kept_of}
 use Rattle.message.specs.Mirror.{mirror_of}
 use Rattle.records.specs.Records.{kind_of}
-use Rattle.fields.specs.declared.IdentityFound.{IdentityFound}
-use Rattle.fields.specs.declared.IdentityFound.TheVariants as head
-use Rattle.fields.specs.declared.DatesFound.{DatesFound}
-use Rattle.fields.specs.declared.DatesFound.TheVariants as dates
 use Rattle.fields.specs.Parts.{point_of, record_address, reading_label}
 use Rattle.fields.specs.Answers.{identity_found, dates_found}
 use Rattle.image.specs.Image.{sound_image}
@@ -50,6 +46,8 @@ use Rattle.link.specs.Answering.{link_in}
 use Rattle.card.specs.declared.Card.{Card}
 use Rattle.card.specs.State.{left_with}
 use Rattle.tender.specs.Card.{Loan, Seen, GapCall, Heard, no_time}
+use Rattle.fields.specs.declared.Identity.{Identity}
+use Rattle.fields.specs.declared.Dates.{Dates}
 
 -- a gap at which a service is heard, lent a full buffer and a sound image
 pub record Hears (card : Card) (loan : Loan) (service : Service) (user : Kept) : Type 0 where
@@ -265,13 +263,13 @@ abbrev pub between_mirrors : Kept → List Kept → List Kept
 between_mirrors request some = mirror_of request 0 7 ∷ (some ++ (mirror_of request 0 10 ∷ []))
 
 -- 71 of the image's first record, 131 of its dates; a sound image has the one, and a request that is accepted finds the other
-abbrev pub identity_of : IdentityFound → Kept → List Kept
-identity_of (head.Is h) request = kept_of (identity_reply (point_in request) h) ∷ []
-identity_of head.Nothing request = []
+abbrev pub identity_of : Option Identity → Kept → List Kept
+identity_of (Some h) request = kept_of (identity_reply (point_in request) h) ∷ []
+identity_of None request = []
 
-abbrev pub dates_of : DatesFound → Kept → List Kept
-dates_of (dates.Is d) request = kept_of (dates_reply (point_in request) d) ∷ []
-dates_of dates.Nothing request = []
+abbrev pub dates_of : Option Dates → Kept → List Kept
+dates_of (Some d) request = kept_of (dates_reply (point_in request) d) ∷ []
+dates_of None request = []
 
 -- type 1, and types 8 and 11 with the objects that are asked for, of what is chosen
 abbrev pub events_for : List ℕ → Kept → List Kept

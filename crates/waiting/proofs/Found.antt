@@ -1,15 +1,12 @@
 -- A reply is found exactly where one waits, whatever the request, the clock and the image.
 -- By what waits. Assumes nothing.
+use Rattle.std.specs.Prelude.{Option, Some, None}
 use Prim.Native.Nat.{ℕ}
 use mathlib.Core.Bool.{true}
 use mathlib.Core.List.{List}
 use mathlib.Core.Path.{◌≡◌, refl}
 use lib.Dec.{eqb}
 use Rattle.octets.proofs.Choice.{either}
-use Rattle.fields.specs.declared.IdentityFound.{IdentityFound}
-use Rattle.fields.specs.declared.IdentityFound.TheVariants as head
-use Rattle.fields.specs.declared.DatesFound.{DatesFound}
-use Rattle.fields.specs.declared.DatesFound.TheVariants as dates
 use Rattle.fields.specs.Answers.{identity_found, dates_found}
 use Rattle.octets.specs.declared.Kept.{Kept}
 use Rattle.deeds.specs.declared.Waiting.{Waiting}
@@ -17,18 +14,20 @@ use Rattle.deeds.specs.declared.Waiting.TheVariants as waiting
 use Rattle.deeds.specs.Deeds.{is_waiting}
 use Rattle.waiting.specs.declared.Next.{Next}
 use Rattle.waiting.specs.NextReply.{firstly, lastly, nothing_found, mirror_with, begin_with, identity_from, dates_from, clock_from, data_from, after_data, next_by}
+use Rattle.fields.specs.declared.Identity.{Identity}
+use Rattle.fields.specs.declared.Dates.{Dates}
 
 module _ (request : Kept) (clock image : List ℕ) where
   -- 71 and 131, whatever the image has of them
-  identity_found_law : (h : IdentityFound) → (identity_from request h).found ≡ true
+  identity_found_law : (h : Option Identity) → (identity_from request h).found ≡ true
   unfolding mirror_with lastly firstly
-  identity_found_law (head.Is h) = refl
-  identity_found_law head.Nothing = refl
+  identity_found_law (Some h) = refl
+  identity_found_law None = refl
 
-  dates_found_law : (d : DatesFound) → (dates_from request d).found ≡ true
+  dates_found_law : (d : Option Dates) → (dates_from request d).found ≡ true
   unfolding mirror_with lastly firstly
-  dates_found_law (dates.Is d) = refl
-  dates_found_law dates.Nothing = refl
+  dates_found_law (Some d) = refl
+  dates_found_law None = refl
 
   pub found_waiting : (w : Waiting) → (next_by request w clock image).found ≡ is_waiting w
   unfolding nothing_found mirror_with lastly firstly begin_with clock_from after_data

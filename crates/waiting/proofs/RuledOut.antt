@@ -1,5 +1,6 @@
 -- What the public contracts of this crate do not allow: two wrong outcomes or more of each.
 -- By what waits, whatever the image, the request and the clock. Assumes nothing.
+use Rattle.std.specs.Prelude.{Some, None}
 use Prim.Native.Nat.{ℕ, ◌+◌, ◌%◌, ◌<◌}
 use mathlib.Core.Bool.{true, false, false≢true}
 use mathlib.Core.List.{List, ◌∷◌}
@@ -12,8 +13,6 @@ use Rattle.octets.specs.Numbers.{low_octets}
 use Rattle.octets.specs.Over.{over}
 use Rattle.octets.proofs.Outcome.{RuledOut, Place, lent, never}
 use Rattle.fields.specs.declared.Identity.{Identity as Meter}
-use Rattle.fields.specs.declared.IdentityFound.TheVariants as head
-use Rattle.fields.specs.declared.DatesFound.TheVariants as dates
 use Rattle.fields.specs.Answers.{identity_found, dates_found}
 use Rattle.choice.specs.declared.Query.TheVariants.{Reading}
 use Rattle.choice.specs.Choice.{choice}
@@ -123,13 +122,13 @@ module _ (κs : Lfts 1) (x : Place) (a b c : ℕ) (rest : List ℕ) (long : ℕ)
       differ (ap (λ (next : Next). get_or next.message.octets 1 0) (rw (left, ne_eqb _ 102 other, offered) at p))
 
   -- 71 with another maker than the image's
-  next_reply_identity : (h : Meter) → identity_found image ≡ head.Is h → (get_or wrong.message.octets 7 0 ≡ h.maker → ⊥)
+  next_reply_identity : (h : Meter) → identity_found image ≡ Some h → (get_or wrong.message.octets 7 0 ≡ h.maker → ⊥)
       → RuledOut (next_reply.Post κs) (held Type71, (lent x image, tt)) wrong
   unfolding next_of lastly firstly kept_of over identity_reply reply_header header_octets low_octets
   next_reply_identity h is other s p = other (ap (λ (next : Next). get_or next.message.octets 7 0) (rw is at p))
 
   -- mirror 13 for a 131 without switch dates
-  next_reply_dates : dates_found image ≡ dates.Nothing → cause_there ≡ cause_octet (t_of c) 0 13
+  next_reply_dates : dates_found image ≡ None → cause_there ≡ cause_octet (t_of c) 0 13
       → RuledOut (next_reply.Post κs) (held Type131, (lent x image, tt)) wrong
   unfolding next_of mirror_with lastly firstly mirror_of mirror
   next_reply_dates none thirteen s p = omega (arith, ap (λ (next : Next). get_or next.message.octets 2 0) (rw none at p))

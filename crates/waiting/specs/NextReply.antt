@@ -1,11 +1,7 @@
 -- The next waiting reply, worked out from the image lent with its own gap. Document 01, "Each waiting reply ..".
 -- Assumes nothing.
-use Rattle.std.specs.Prelude.{ℕ, ◌+◌, ◌%◌, Bool, true, false, List, [], eqb}
+use Rattle.std.specs.Prelude.{ℕ, ◌+◌, ◌%◌, Bool, true, false, List, [], eqb, Option, Some, None}
 use Rattle.octets.specs.Choice.{when◌then◌else◌}
-use Rattle.fields.specs.declared.IdentityFound.{IdentityFound}
-use Rattle.fields.specs.declared.IdentityFound.TheVariants as head
-use Rattle.fields.specs.declared.DatesFound.{DatesFound}
-use Rattle.fields.specs.declared.DatesFound.TheVariants as dates
 use Rattle.fields.specs.Answers.{identity_found, dates_found}
 use Rattle.octets.specs.declared.Kept.{Kept}
 use Rattle.message.specs.declared.Request.{Request}
@@ -21,6 +17,8 @@ use Rattle.deeds.specs.declared.Waiting.TheVariants.{NoReply, Mirror, Denied, Be
 use Rattle.deeds.specs.declared.Pending.{Pending}
 use Rattle.waiting.specs.declared.Next.{Next}
 use Rattle.deeds.specs.Deeds.{nothing_pending}
+use Rattle.fields.specs.declared.Identity.{Identity}
+use Rattle.fields.specs.declared.Dates.{Dates}
 
 -- a message that is given, and what waits behind it: the rest, or nothing
 unfoldable pub firstly : Kept → Pending → Next
@@ -49,13 +47,13 @@ module _ (request : Kept) where
   mirror_with pn cause = lastly (mirror_of request (pn_bit pn) (cause % 64))
 
   -- 71: from the image's first record; and 131, which without dates becomes mirror 14
-  abbrev pub identity_from : IdentityFound → Next
-  identity_from (head.Is h) = lastly (kept_of (identity_reply asked.header.point h))
-  identity_from head.Nothing = mirror_with false 14
+  abbrev pub identity_from : Option Identity → Next
+  identity_from (Some h) = lastly (kept_of (identity_reply asked.header.point h))
+  identity_from None = mirror_with false 14
 
-  abbrev pub dates_from : DatesFound → Next
-  dates_from (dates.Is d) = lastly (kept_of (dates_reply asked.header.point d))
-  dates_from dates.Nothing = mirror_with false 14
+  abbrev pub dates_from : Option Dates → Next
+  dates_from (Some d) = lastly (kept_of (dates_reply asked.header.point d))
+  dates_from None = mirror_with false 14
 
   -- 72: the clock that was taken
   unfoldable pub clock_from : List ℕ → Next

@@ -7,7 +7,7 @@ ghost use Rattle.waiting.specs.NextReply.{lastly, nothing_found, mirror_with, da
 
 use data::Portion;
 use deeds::{Pending, Waiting};
-use fields::{DatesFound, IdentityFound};
+use fields::{Dates, Identity};
 use message::Request;
 use octets::Kept;
 
@@ -76,21 +76,21 @@ fn asked(request: Kept) -> Request
     Request::read(octets::part(&octets, 0, request.length as usize))
 }
 
-fn identity_from(request: Kept, found: IdentityFound) -> Next
+fn identity_from(request: Kept, found: Option<Identity>) -> Next
     ensures { result ≡ identity_from request found }
 {
     match found {
-        IdentityFound::Is(head) => lastly(data::identity(asked(request).header.point, head)),
-        IdentityFound::Nothing => mirror_with(request, false, 14),
+        Some(head) => lastly(data::identity(asked(request).header.point, head)),
+        None => mirror_with(request, false, 14),
     }
 }
 
-fn dates_from(request: Kept, found: DatesFound) -> Next
+fn dates_from(request: Kept, found: Option<Dates>) -> Next
     ensures { result ≡ dates_from request found }
 {
     match found {
-        DatesFound::Is(dates) => lastly(data::dates(asked(request).header.point, dates)),
-        DatesFound::Nothing => mirror_with(request, false, 14),
+        Some(dates) => lastly(data::dates(asked(request).header.point, dates)),
+        None => mirror_with(request, false, 14),
     }
 }
 

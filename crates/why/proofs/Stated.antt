@@ -1,5 +1,6 @@
 -- The rule that is named holds and no earlier one does, each as document 01 words it; and the first to hold is named.
 -- Each test of the card's definition tells whether its rule holds (`told`), made of what its parts tell; the rest is the law of the first that applies. Assumes nothing.
+use Rattle.std.specs.Prelude.{Option, Some, None}
 use Prim.Native.Nat.{ℕ, ◌+◌, ◌≤◌, ◌<◌}
 use mathlib.Core.Bool.{Bool, true, false, not, ◌&&◌, ◌||◌, false≢true}
 use mathlib.Core.List.{List, [], ◌∷◌}
@@ -28,8 +29,6 @@ use Rattle.message.specs.declared.Addresses.TheVariants.{Only, Events}
 use Rattle.message.specs.declared.ObjectRange.{ObjectRange}
 use Rattle.message.specs.declared.Request.{Request}
 use Rattle.message.specs.declared.Row.{Row}
-use Rattle.message.specs.declared.RowFound.{RowFound}
-use Rattle.message.specs.declared.RowFound.TheVariants as row
 use Rattle.message.specs.Headers.{t_of, pn_of, header_of}
 use Rattle.message.specs.Requests.{asks_readings, objects_offered, labels_from, request_of}
 use Rattle.message.specs.Table.{table, row_in}
@@ -69,11 +68,11 @@ module _ (type : ℕ) where
   unfolding row_in
   listed_told [] = record { yes = λ e. absurd (false≢true e); only = λ h. absurd h }
   listed_told (r ∷ rs) =
-      either (λ (found : RowFound). Tells (Some (λ (w : Row). type ≡ w.type_id) (r ∷ rs)) (listed found)) (eqb r.type_id type)
+      either (λ (found : Option Row). Tells (Some (λ (w : Row). type ≡ w.type_id) (r ∷ rs)) (listed found)) (eqb r.type_id type)
       (λ e. record { yes = λ t. inl (sym (eqb-true r.type_id type e)); only = λ one. refl })
       (λ e. in_words inr (later_one (λ f. eqb-false r.type_id type e (sym f))) (listed_told rs))
 
-  module _ (Q : Row → Type 0) (g : RowFound → Bool) (nothing : g row.Nothing ≡ false) (each : (w : Row) → Tells (Q w) (g (row.Is w))) where
+  module _ (Q : Row → Type 0) (g : Option Row → Bool) (nothing : g None ≡ false) (each : (w : Row) → Tells (Q w) (g (Some w))) where
     abbrev OfType : Row → Type 0
     OfType w = (type ≡ w.type_id) × Q w
 
@@ -81,7 +80,7 @@ module _ (type : ℕ) where
     unfolding row_in
     found_told [] a = record { yes = λ e. absurd (not_both nothing e); only = λ h. absurd h }
     found_told (r ∷ rs) a =
-        either (λ (found : RowFound). Tells (Some OfType (r ∷ rs)) (g found)) (eqb r.type_id type)
+        either (λ (found : Option Row). Tells (Some OfType (r ∷ rs)) (g found)) (eqb r.type_id type)
         (λ e. in_words (λ q. inl (sym (eqb-true r.type_id type e), q)) (here (eqb-true r.type_id type e)) (each r))
         (λ e. in_words inr (later_one (λ o. eqb-false r.type_id type e (sym o.0))) (found_told rs (and_right (not (listed (row_in rs r.type_id))) _ a)))
       where
@@ -219,14 +218,14 @@ module _ (session : Session) (image clock m : List ℕ) (sound : sound_image ima
   rule_told Shape =
       alone
       (negated (shaped (row_in table type) (request_of m))
-      (found_told type (ShapeAs m) (λ (found : RowFound). shaped found (request_of m)) refl
+      (found_told type (ShapeAs m) (λ (found : Option Row). shaped found (request_of m)) refl
       (λ (w : Row). and (eqb (structure_in m) w.count) (is (structure_in m) w.count)
       (and (eqb (length m) w.octets) (is (length m) w.octets) (is (bits 1 to 6 of (cause_in m)) w.cause)))
       table apart_table))
   rule_told Address =
       alone
       (negated (addressed (row_in table type) (record_in m))
-      (found_told type (λ (w : Row). RecordAs m w.addresses) (λ (found : RowFound). addressed found (record_in m)) refl
+      (found_told type (λ (w : Row). RecordAs m w.addresses) (λ (found : Option Row). addressed found (record_in m)) refl
       (λ (w : Row). record_told m w.addresses) table apart_table))
   rule_told Objects = alone (and (asks_readings type) (asks_told m) (objects_told (request_of m).objects))
   rule_told ReadingLabel = alone (and_then (asks_readings type) (asks_told m) (λ asks. labels_told m 8 (from_8 m asks)))

@@ -1,46 +1,20 @@
 -- `choice::walk` answers the place of the n-th chosen among the records from a place on.
--- The loop's invariant: what is left to pass from here on comes to the same. Assumes nothing.
-use mathlib.Core.Path.{refl, ◌∙◌}
-use native.Mathlib.Omega.{arith}
-use Rattle.records.proofs.Records.{stands, stands_not, after_within}
-use Rattle.choice.proofs.Chosen.{chosen_there, walk_end, walk_here, walk_skip, walk_pass}
+-- The chain's items are the places of all records at which a chosen key stands. Assumes nothing.
+use Rattle.std.proofs.Common.{rules, tests}
+use mathlib.Core.Path.{ap, ◌∙◌}
+use Rattle.std.proofs.lemmas.Iterator.Consumers.{nth_from_yields_List, YieldsList-from_filter, YieldsList-from_first}
+use Rattle.fields.specs.working.Key.{key_at}
+use Rattle.records.specs.declared.PlacesFrom.{PlacesFrom}
+use Rattle.records.specs.Said.{places_behind}
+use Rattle.choice.specs.working.Keys.{key_chosen}
+use Rattle.choice.proofs.Chosen.{nth_filtered, as_got}
 use Rattle.choice.proofs.walk.Goals as goal
-
-pub loop-at-init : goal.loop-at-init
-loop-at-init c = (c.after-next.ensures, refl)
-
-pub returns-then-left-eq0 : goal.returns-then-left-eq0
-returns-then-left-eq0 c =
-    let l = c.loop-at in
-    let w = stands _ _ l.invariant.0 c.loop-at-test.true in
-    let hit = chosen_there _ _ _ w c.is_chosen.ensures c.if-is_chosen.true in
-    walk_here _ _ _ _ w hit c.if-left-eq0.true ∙ l.invariant.1
-
-pub loop-at-smaller-then-is_chosen : goal.loop-at-smaller-then-is_chosen
-loop-at-smaller-then-is_chosen c =
-    let l = c.loop-at in
-    omega (arith, l.invariant.0, after_within _ _ (stands _ _ l.invariant.0 c.loop-at-test.true))
-
-pub loop-at-preserved-then-is_chosen : goal.loop-at-preserved-then-is_chosen
-loop-at-preserved-then-is_chosen c =
-    let l = c.loop-at in
-    let w = stands _ _ l.invariant.0 c.loop-at-test.true in
-    let hit = chosen_there _ _ _ w c.is_chosen.ensures c.if-is_chosen.true in
-    (c.after-next-in-loop-at.ensures, rw l.invariant.0 (walk_skip _ _ _ _ w hit c.if-left-eq0.false ∙ l.invariant.1))
-
-pub loop-at-smaller : goal.loop-at-smaller
-loop-at-smaller c =
-    let l = c.loop-at in
-    omega (arith, l.invariant.0, after_within _ _ (stands _ _ l.invariant.0 c.loop-at-test.true))
-
-pub loop-at-preserved : goal.loop-at-preserved
-loop-at-preserved c =
-    let l = c.loop-at in
-    let w = stands _ _ l.invariant.0 c.loop-at-test.true in
-    let pass = chosen_there _ _ _ w c.is_chosen.ensures c.if-is_chosen.false in
-    (c.after-next-in-loop-at.ensures, rw l.invariant.0 (walk_pass _ _ _ _ w pass ∙ l.invariant.1))
 
 pub returns : goal.returns
 returns c =
-    let l = c.loop-at in
-    walk_end _ _ _ _ (stands_not _ _ l.invariant.0 c.loop-at-test.false) ∙ l.invariant.1
+    let places = λ (s : PlacesFrom). places_behind s.octets.now s.at in
+    as_got c.nth.result
+    ∙ nth_from_yields_List c.nth.result c.nth.new.self c.args.n c.nth.ensures.ran
+    (YieldsList-from_filter _ (λ p. key_chosen c.args.query (key_at c.args.image.now p))
+    (YieldsList-from_first (λ x. x) places _ (ap places c.filter.ensures.source)) c.filter.ensures.closure (λ x r q k. search (rules, tests)))
+    ∙ nth_filtered c.args.query c.args.image.now c.args.from c.args.n

@@ -1,14 +1,12 @@
 -- Where the walk over an image's records stands, and what its steps answer. Nothing here has to be believed: that it comes to the first fault is
 -- proved. Assumes nothing.
-use Rattle.std.specs.Prelude.{ℕ, ◌+◌, ◌≤◌, ◌<◌, Bool, true, false, not, ◌&&◌, ◌≡◌, leb, eqb, length, drop}
+use Rattle.std.specs.Prelude.{ℕ, ◌+◌, ◌≤◌, ◌<◌, Bool, true, false, not, ◌&&◌, ◌≡◌, leb, eqb, length, drop, Option, Some, None}
 use mathlib.Core.List.{List, [], ◌∷◌, ◌++◌, flatten}
 use Rattle.octets.specs.Choice.{when◌then◌else◌}
 use Rattle.octets.specs.First.{When, ◌⇒◌▸◌, first_of◌else◌}
 use Rattle.label.specs.Label.{valid_a}
 use Rattle.records.specs.Records.{whole_at, record_at, records_from, kind_at, place_after}
 use Rattle.records.specs.Said.{every, linked, how_many}
-use Rattle.fields.specs.declared.DatesFound.{DatesFound}
-use Rattle.fields.specs.declared.DatesFound.TheVariants as dates
 use Rattle.fields.specs.Parts.{is_kind}
 use Rattle.fields.specs.Answers.{records_of}
 use Rattle.image.specs.Image.{right, in_order, knows}
@@ -17,6 +15,7 @@ use Rattle.faults.specs.declared.ImageRule.TheVariants.{FirstDate, SecondDate, N
 use Rattle.faults.specs.declared.ImageFault.{ImageFault}
 use Rattle.faults.specs.declared.Walk.{Walk}
 use Rattle.faults.specs.Images.{of_whole, own_rules, follows, place_rules, record_rule, end_faults, fault_from}
+use Rattle.fields.specs.declared.Dates.{Dates}
 
 -- whether a rule is none
 pub record Tells (rule : ImageRule) (none : Bool) : Type 0 where
@@ -31,9 +30,9 @@ own_rule r = first_of own_rules r else NoFault
 unfoldable pub first_wrong : Bool → Bool → ImageRule → ImageRule → ImageRule
 first_wrong first second one other = first_of not first ⇒ one ▸ not second ⇒ other ▸ [] else NoFault
 
-unfoldable pub dates_rule : DatesFound → ImageRule
-dates_rule (dates.Is d) = first_wrong (valid_a d.first) (valid_a d.second) FirstDate SecondDate
-dates_rule dates.Nothing = NoFault
+unfoldable pub dates_rule : Option Dates → ImageRule
+dates_rule (Some d) = first_wrong (valid_a d.first) (valid_a d.second) FirstDate SecondDate
+dates_rule None = NoFault
 
 -- by how many points are passed, and whether a point is known
 unfoldable pub point_rule : ℕ → ℕ → Bool → ImageRule

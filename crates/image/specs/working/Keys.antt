@@ -1,25 +1,23 @@
 -- The rules of an image as they are worked out, over keys and over the points behind the first record, in one walk over the records.
 -- Nothing here has to be believed: that these are the rules of `Image` is proved. Assumes nothing.
-use Rattle.std.specs.Prelude.{ℕ, ◌+◌, ◌-◌, ◌≤◌, ◌<◌, Bool, true, false, not, ◌&&◌, ◌≡◌, ltb, leb, eqb, ℤ, length}
+use Rattle.std.specs.Prelude.{ℕ, ◌+◌, ◌-◌, ◌≤◌, ◌<◌, Bool, true, false, not, ◌&&◌, ◌≡◌, ltb, leb, eqb, ℤ, length, Option, Some, None}
 use mathlib.Core.List.{List, [], ◌∷◌, flatten}
 use Rattle.octets.specs.Choice.{when◌then◌else◌}
 use Rattle.label.specs.Label.{valid_a, valid_b, instant, before_b}
 use Rattle.records.specs.Records.{kind_of, records_from}
 use Rattle.records.specs.Said.{every, linked}
 use Rattle.fields.specs.declared.Key.{Key}
-use Rattle.fields.specs.declared.DatesFound.{DatesFound}
-use Rattle.fields.specs.declared.DatesFound.TheVariants as dates
-use Rattle.fields.specs.declared.PointFound.{PointFound}
-use Rattle.fields.specs.declared.PointFound.TheVariants as point
 use Rattle.fields.specs.Parts.{point_of}
 use Rattle.fields.specs.working.Key.{at_minute, key_of}
 use Rattle.fields.specs.Answers.{records_of, points_of, point_in}
 use Rattle.image.specs.declared.Run.{Run}
 use Rattle.image.specs.Image.{reading_record, event_record, right, in_order}
+use Rattle.fields.specs.declared.Point.{Point}
+use Rattle.fields.specs.declared.Dates.{Dates}
 
-unfoldable pub valid_dates : DatesFound → Bool
-valid_dates (dates.Is d) = valid_a d.first && valid_a d.second
-valid_dates dates.Nothing = false
+unfoldable pub valid_dates : Option Dates → Bool
+valid_dates (Some d) = valid_a d.first && valid_a d.second
+valid_dates None = false
 
 -- by point and record address, and where these are the same by what the labels say
 unfoldable pub by_key : Key → Key → Bool → Bool
@@ -40,9 +38,9 @@ keys_in_order k l =
     false
 
 -- whether the point of a reading or an event is among some points
-abbrev pub is_found : PointFound → Bool
-is_found (point.Is p) = true
-is_found point.Nothing = false
+abbrev pub is_found : Option Point → Bool
+is_found (Some p) = true
+is_found None = false
 
 unfoldable pub known_in : List (List ℕ) → List ℕ → Bool
 known_in points r = when leb 4 (kind_of r) then is_found (point_in (point_of r) 1 points) else true
