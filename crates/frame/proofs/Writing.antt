@@ -8,11 +8,15 @@ use Rattle.octets.specs.Keeping.{octets_of}
 use Rattle.octets.proofs.Over.{Put, laid_first, laid_more}
 use Rattle.octets.proofs.Sum.{checksum_append}
 use Rattle.frame.specs.declared.Control.{Control}
+use Rattle.frame.specs.declared.Control.TheVariants.{Ack, Nack, NothingToGive, Status}
 use Rattle.frame.specs.declared.Reply.{Reply}
-use Rattle.frame.specs.declared.Written.{Written}
-use Rattle.frame.specs.declared.Written.TheVariants.{Short, Octets}
+use Rattle.frame.specs.declared.WriteError.{WriteError}
+use Rattle.frame.specs.declared.WriteError.TheVariants.{Short}
+use Rattle.std.specs.Prelude.{Result, Ok, Err, ◌⊎◌}
+use mathlib.Core.Logic.{inl, inr}
 use Rattle.frame.specs.Family.{sapr}
 use Rattle.frame.specs.Frame.{Frame, fixed, variable, body_of, start_with, written}
+use Rattle.frame.specs.Controls.{control_of}
 use Rattle.frame.specs.Writing.{frame_as, reply_frame, reply_octets}
 use Rattle.frame.specs.Calls.{written_says, answer_to, left_of}
 
@@ -70,26 +74,34 @@ module _ (c address : ℕ) where
           }
 
 -- a buffer that is too short, and a reply that stands in one
-pub short_refused : (buffer octets : List ℕ) → length buffer < 261 → Does (answer_to buffer octets) (left_of buffer octets) Short buffer
+pub short_refused : (buffer octets : List ℕ) → length buffer < 261 → Does (answer_to buffer octets) (left_of buffer octets) (Err Short) buffer
 unfolding answer_to left_of
 short_refused buffer octets h = record { answers = rw (lt-ltb _ _ h); left_so = rw (lt-ltb _ _ h) }
 
 pub reply_stands : {left : List ℕ} {n : ℕ} (buffer : List ℕ) (reply : Reply) (c : Control) → reply.control ≡ c → 261 ≤ length buffer
     → Stands buffer (frame_as c reply.link.0 (octets_of reply.user)) n left
-    → Does (answer_to buffer (reply_octets reply)) (left_of buffer (reply_octets reply)) (Octets n) left
+    → Does (answer_to buffer (reply_octets reply)) (left_of buffer (reply_octets reply)) (Ok n) left
 unfolding reply_octets reply_frame answer_to left_of
 reply_stands buffer reply c e h s = rw e (record { answers = rw (le-ltb _ _ h, s.answers); left_so = rw (le-ltb _ _ h) s.left_so })
 
+-- every reply but data is of the fixed form
+pub fixed_reply : (c : Control) (a : ℕ) (user : List ℕ) → (c ≡ Ack) ⊎ ((c ≡ Nack) ⊎ ((c ≡ NothingToGive) ⊎ (c ≡ Status)))
+    → fixed (control_of c) a ≡ frame_as c a user
+fixed_reply c a user (inl e) = rw e
+fixed_reply c a user (inr (inl e)) = rw e
+fixed_reply c a user (inr (inr (inl e))) = rw e
+fixed_reply c a user (inr (inr (inr e))) = rw e
+
 -- what is written into a buffer that is long enough
 module _ (buffer octets : List ℕ) {left : List ℕ} (room : 261 ≤ length buffer) where
-  pub written_whole : (count : ℕ) → Does (answer_to buffer octets) (left_of buffer octets) (Octets count) left → Does (length octets) (laid_in buffer octets) count left
+  pub written_whole : (count : ℕ) → Does (answer_to buffer octets) (left_of buffer octets) (Ok count) left → Does (length octets) (laid_in buffer octets) count left
   unfolding answer_to left_of
   written_whole count d =
-      let says : Octets count ≡ Octets (length octets) = rw (le-ltb _ _ room) at d.answers in
-      record { answers = ap (λ (w : Written). get_or (written_says w).values 0 0) says; left_so = rw (le-ltb _ _ room) at d.left_so }
+      let says : Ok count ≡ Ok (length octets) = rw (le-ltb _ _ room) at d.answers in
+      record { answers = ap (λ (w : Result ℕ WriteError). get_or (written_says w).values 0 0) says; left_so = rw (le-ltb _ _ room) at d.left_so }
 
-  pub never_short : Does (answer_to buffer octets) (left_of buffer octets) Short left → ⊥
+  pub never_short : Does (answer_to buffer octets) (left_of buffer octets) (Err Short) left → ⊥
   unfolding answer_to
   never_short d =
-      let says : Short ≡ Octets (length octets) = rw (le-ltb _ _ room) at d.answers in
-      omega (arith, ap (λ (w : Written). (written_says w).number) says)
+      let says : Err Short ≡ Ok (length octets) = rw (le-ltb _ _ room) at d.answers in
+      omega (arith, ap (λ (w : Result ℕ WriteError). (written_says w).number) says)

@@ -7,7 +7,7 @@ ghost use Rattle.octets.specs.Sum.{checksum};
 ghost use Rattle.octets.specs.Over.{laid_in, Does};
 ghost use Rattle.frame.specs.Frame.{fixed, variable, fixed_form, variable_form, sum_right, judge, body_of, start_with, written, fault_number};
 ghost use Rattle.frame.specs.Calls.{verdict_says, judged_says, user_part, answer_to, left_of};
-ghost use Rattle.frame.specs.Controls.{offered};
+ghost use Rattle.frame.specs.Controls.{offered, control_of};
 ghost use Rattle.frame.specs.Writing.{reply_octets, plain};
 
 use address::LinkAddress;
@@ -24,10 +24,9 @@ pub enum Fault {
     Spoiled,
 }
 
-// What a run is: no sound frame, or a sound one.
+// A sound frame.
 #[derive(Clone, Copy)]
 pub enum Judged {
-    Faulty(Fault),
     Fixed {
         control: u8,
         link: LinkAddress,
@@ -55,7 +54,6 @@ pub enum Service {
     Collection(u8),
 }
 
-// What a control field asks for: a service, or nothing that is offered.
 // The control fields of replies: acknowledged, not acknowledged, data, nothing to give, the link's status.
 #[derive(Clone, Copy)]
 pub enum Control {
@@ -74,11 +72,10 @@ pub struct Reply {
     pub user: Kept,
 }
 
-// The buffer is under 261 octets; or so many octets are written.
-#[derive(Clone, Copy)]
-pub enum Written {
+// Why no reply is written: the buffer is under 261 octets.
+#[derive(Clone, Copy, Debug, PartialEq, Eq)]
+pub enum WriteError {
     Short,
-    Octets(u16),
 }
 
 impl Judged {
@@ -114,6 +111,19 @@ impl Service {
 }
 
 impl Control {
+    // Its octet.
+    fn octet(self) -> u8
+        ensures { result ≡ control_of self }
+    {
+        match self {
+            Control::Ack => Control::ACK,
+            Control::Nack => Control::NACK,
+            Control::Data => Control::DATA,
+            Control::NothingToGive => Control::NOTHING_TO_GIVE,
+            Control::Status => Control::STATUS,
+        }
+    }
+
     pub const ACK: u8 = 0x00;
 
     pub const NACK: u8 = 0x01;
@@ -140,38 +150,24 @@ impl Fault {
     }
 }
 
+#[tactic(auto, unfolding(crate::specs::Frame::fixed_form, octets::specs::Conditions::holds))]
 fn fixed_form(run: &[u8]) -> bool
     ensures { result ≡ fixed_form sapr run.now }
 {
-    if run.len() != Judged::FIXED {
-        return false;
-    }
-    if run[0] != Judged::START_FIXED {
-        return false;
-    }
-    run[5] == Judged::END
+    run.len() == Judged::FIXED && run[0] == Judged::START_FIXED && run[5] == Judged::END
 }
 
+#[tactic(auto, unfolding(crate::specs::Frame::variable_form, octets::specs::Conditions::holds))]
 fn variable_form(run: &[u8]) -> bool
     ensures { result ≡ variable_form sapr run.now }
 {
     let n = run.len();
-    if n < Judged::FRAMING {
-        return false;
-    }
-    if n != run[1] as usize + Judged::UNCOUNTED {
-        return false;
-    }
-    if run[0] != Judged::START_VARIABLE {
-        return false;
-    }
-    if run[2] != run[1] {
-        return false;
-    }
-    if run[3] != Judged::START_VARIABLE {
-        return false;
-    }
-    run[n - 1] == Judged::END
+    Judged::FRAMING <= n
+        && n == run[1] as usize + Judged::UNCOUNTED
+        && run[0] == Judged::START_VARIABLE
+        && run[2] == run[1]
+        && run[3] == Judged::START_VARIABLE
+        && run[n - 1] == Judged::END
 }
 
 fn sum_right(run: &[u8], start: usize) -> bool
@@ -190,36 +186,38 @@ fn link_at(run: &[u8], at: usize) -> LinkAddress
     LinkAddress(octets::low_first_2(run[at], run[at + 1]))
 }
 
-pub fn judge(run: &[u8]) -> Judged
+// What a run is: a sound frame, or why it is none.
+#[tactic(auto, using(crate::proofs::Frame::fixed_facts, crate::proofs::Frame::variable_facts, crate::proofs::Frame::judge_empty, crate::proofs::Frame::judge_long, crate::proofs::Frame::judge_malformed, crate::proofs::Judging::says_fixed, crate::proofs::Judging::says_variable, crate::proofs::Judging::says_spoiled_fixed, crate::proofs::Judging::says_spoiled_variable))]
+pub fn judge(run: &[u8]) -> Result<Judged, Fault>
     ensures { judged_says result ≡ verdict_says (judge sapr run.now) }
 {
     let n = run.len();
     if n == 0 {
-        return Judged::Faulty(Fault::Empty);
+        return Err(Fault::Empty);
     }
     if Judged::LONGEST < n {
-        return Judged::Faulty(Fault::Long);
+        return Err(Fault::Long);
     }
     if fixed_form(run) {
-        if sum_right(run, 1) {
-            return Judged::Fixed {
-                control: run[1],
-                link: link_at(run, 2),
-            };
+        if !sum_right(run, 1) {
+            return Err(Fault::Spoiled);
         }
-        return Judged::Faulty(Fault::Spoiled);
+        return Ok(Judged::Fixed {
+            control: run[1],
+            link: link_at(run, 2),
+        });
     }
     if variable_form(run) {
-        if sum_right(run, 4) {
-            return Judged::Variable {
-                control: run[4],
-                link: link_at(run, 5),
-                users: (n - Judged::FRAMING) as u8,
-            };
+        if !sum_right(run, 4) {
+            return Err(Fault::Spoiled);
         }
-        return Judged::Faulty(Fault::Spoiled);
+        return Ok(Judged::Variable {
+            control: run[4],
+            link: link_at(run, 5),
+            users: (n - Judged::FRAMING) as u8,
+        });
     }
-    Judged::Faulty(Fault::Malformed)
+    Err(Fault::Malformed)
 }
 
 // The user octets of a variable frame, as a part of its run; of any run, so many of those behind the first seven, as far as there are any.
@@ -240,40 +238,34 @@ pub fn service_of(form: Form, control: u8) -> Option<Service>
 }
 
 // With FCV 0 either FCB serves.
+#[tactic(auto, unfolding(crate::specs::Controls::offered), using(crate::proofs::Controls::fixed_only))]
 fn fixed_service(control: u8) -> Option<Service>
     ensures { result ≡ offered Form.Fixed control }
 {
     if control == Service::COLLECTION {
-        return Some(Service::Collection(0));
+        Some(Service::Collection(0))
+    } else if control == Service::COLLECTION + Service::FCB {
+        Some(Service::Collection(1))
+    } else if control == Service::RESET || control == Service::RESET + Service::FCB {
+        Some(Service::Reset)
+    } else if control == Service::STATUS || control == Service::STATUS + Service::FCB {
+        Some(Service::Status)
+    } else {
+        None
     }
-    if control == Service::COLLECTION + Service::FCB {
-        return Some(Service::Collection(1));
-    }
-    if control == Service::RESET {
-        return Some(Service::Reset);
-    }
-    if control == Service::RESET + Service::FCB {
-        return Some(Service::Reset);
-    }
-    if control == Service::STATUS {
-        return Some(Service::Status);
-    }
-    if control == Service::STATUS + Service::FCB {
-        return Some(Service::Status);
-    }
-    None
 }
 
+#[tactic(auto, unfolding(crate::specs::Controls::offered), using(crate::proofs::Controls::variable_only))]
 fn variable_service(control: u8) -> Option<Service>
     ensures { result ≡ offered Form.Variable control }
 {
     if control == Service::USER_DATA {
-        return Some(Service::UserData(0));
+        Some(Service::UserData(0))
+    } else if control == Service::USER_DATA + Service::FCB {
+        Some(Service::UserData(1))
+    } else {
+        None
     }
-    if control == Service::USER_DATA + Service::FCB {
-        return Some(Service::UserData(1));
-    }
-    None
 }
 
 impl Reply {
@@ -289,28 +281,28 @@ impl Reply {
     }
 }
 
-// Writes a reply into the first octets of the buffer.
-pub fn write(buffer: &mut [u8], reply: Reply) -> Written
+// Writes a reply into the first octets of the buffer, and answers how many they are.
+#[tactic(auto, using(crate::proofs::Writing::short_refused, crate::proofs::Writing::reply_stands), unfolding(octets::specs::Keeping::octets_of))]
+pub fn write(buffer: &mut [u8], reply: Reply) -> Result<u16, WriteError>
     ensures { Does (answer_to buffer.old (reply_octets reply)) (left_of buffer.old (reply_octets reply)) result buffer.new }
 {
     if buffer.len() < Judged::LONGEST {
-        return Written::Short;
+        return Err(WriteError::Short);
     }
-    let control = reply.control;
-    let link = reply.link;
-    match control {
-        Control::Ack => Written::Octets(write_fixed(buffer, Control::ACK, link.0)),
-        Control::Nack => Written::Octets(write_fixed(buffer, Control::NACK, link.0)),
-        Control::NothingToGive => Written::Octets(write_fixed(
-            buffer,
-            Control::NOTHING_TO_GIVE,
-            link.0,
-        )),
-        Control::Status => Written::Octets(write_fixed(buffer, Control::STATUS, link.0)),
+    let control = reply.control.octet();
+    let link = reply.link.0;
+    match reply.control {
         Control::Data => {
             let user = reply.user;
-            let octets = user.octets;
-            Written::Octets(write_variable(buffer, Control::DATA, link.0, octets, user.length))
+            Ok(write_variable(
+                buffer,
+                control,
+                link,
+                octets::part(&user.octets, 0, user.length as usize),
+            ))
+        }
+        Control::Ack | Control::Nack | Control::NothingToGive | Control::Status => {
+            Ok(write_fixed(buffer, control, link))
         }
     }
 }
@@ -344,19 +336,8 @@ fn write_fixed(buffer: &mut [u8], control: u8, address: u16) -> u16
     Judged::FIXED as u16
 }
 
-fn write_variable(buffer: &mut [u8], control: u8, address: u16, user: [u8; 252], users: u8) -> u16
-    requires { 261 ≤ length buffer.old }
-    ensures { Does (length (written sapr (variable control address (take users user)))) (laid_in buffer.old (written sapr (variable control address (take users user)))) result buffer.new }
-{
-    write_parts(
-        buffer,
-        control,
-        address,
-        octets::part(&user, 0, users as usize),
-    )
-}
-
-fn write_parts(buffer: &mut [u8], control: u8, address: u16, user: &[u8]) -> u16
+#[tactic(auto, using(crate::proofs::Writing::variable_stands))]
+fn write_variable(buffer: &mut [u8], control: u8, address: u16, user: &[u8]) -> u16
     requires { (261 ≤ length buffer.old) × (length user.now ≤ 252) }
     ensures { Does (length (written sapr (variable control address user.now))) (laid_in buffer.old (written sapr (variable control address user.now))) result buffer.new }
 {

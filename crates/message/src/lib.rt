@@ -160,44 +160,38 @@ const TABLE: [Row; 10] = [
 pub fn row_of(type_id: u8) -> Option<Row>
     ensures { result ≡ row_in table type_id }
 {
-    let rows = TABLE;
-    let mut i = 0;
-    while i < 10 {
-        let row = rows[i];
-        if row.type_id == type_id {
-            return Some(row);
-        }
-        i += 1;
-    }
-    None
+    row_in(&TABLE, type_id)
+}
+
+fn row_in(rows: &[Row], type_id: u8) -> Option<Row>
+    ensures { result ≡ row_in rows.now type_id }
+{
+    rows.iter().find(|row| row.type_id == type_id).copied()
 }
 
 // 122 and 123 ask for readings.
+#[tactic(auto, unfolding(crate::specs::Requests::asks_readings))]
 fn asks_readings(type_id: u8) -> bool
     ensures { result ≡ asks_readings type_id }
 {
-    if type_id == 122 {
-        return true;
-    }
-    type_id == 123
+    matches!(type_id, 122 | 123)
 }
 
 // Where the labels a stand: of a request for readings behind its two objects, of any other directly behind the header.
 fn labels_from(type_id: u8) -> usize
     ensures { (result ≡ labels_from type_id) × (result ≤ 8) }
 {
-    if asks_readings(type_id) {
-        return 8;
-    }
-    6
+    if asks_readings(type_id) { 8 } else { 6 }
 }
 
+#[tactic(auto, using(label::proofs::Label::label_a_cut))]
 fn label_at(m: &[u8], at: usize) -> LabelA
     ensures { result ≡ label_a_at m.now at }
 {
     LabelA::read(octets::part(m, at, 5))
 }
 
+#[tactic(auto, unfolding(crate::specs::Requests::request_of))]
 fn password_of(m: &[u8]) -> u32
     ensures { result ≡ (request_of m.now).password }
 {
@@ -211,16 +205,11 @@ fn password_of(m: &[u8]) -> u32
 
 impl ObjectRange {
     // A reading has the objects 1 to 6, and any of them that follow on each other may be asked for.
+    #[tactic(auto, unfolding(crate::specs::Requests::objects_offered, octets::specs::Conditions::holds))]
     pub fn are_offered(self) -> bool
         ensures { result ≡ objects_offered self }
     {
-        if self.first < 1 {
-            return false;
-        }
-        if self.last < self.first {
-            return false;
-        }
-        self.last <= 6
+        1 <= self.first && self.first <= self.last && self.last <= 6
     }
 }
 
@@ -281,16 +270,17 @@ impl Header {
 }
 
 // The request with another cause and P/N; T is kept.
+#[tactic(auto, unfolding(crate::specs::Mirror::mirror_of))]
 pub fn mirrored(request: Kept, pn: bool, cause: u8) -> Kept
     ensures { result ≡ mirror_of request (pn_bit pn) (cause % 64) }
 {
-    let octets = request.octets;
     Kept {
-        octets: with_cause(octets, pn, cause),
-        length: request.length,
+        octets: with_cause(request.octets, pn, cause),
+        ..request
     }
 }
 
+#[tactic(auto, unfolding(crate::specs::Mirror::mirror))]
 fn with_cause(request: [u8; 252], pn: bool, cause: u8) -> [u8; 252]
     ensures { result ≡ mirror request (pn_bit pn) (cause % 64) }
 {
@@ -303,8 +293,6 @@ fn cause_octet(old: u8, pn: bool, cause: u8) -> u8
     ensures { result ≡ cause_octet (t_of old) (pn_bit pn) (cause % 64) }
 {
     let t = old / 128 * 128;
-    if pn {
-        return t + 64 + cause % 64;
-    }
-    t + cause % 64
+    let pn = if pn { 64 } else { 0 };
+    t + pn + cause % 64
 }
