@@ -143,10 +143,7 @@ fn is_link(image: &[u8], link: LinkAddress) -> bool
     ensures { result ≡ is_link (identity_found image.now) link }
 {
     match fields::identity_of(image) {
-        IdentityFound::Is(identity) => {
-            let own = identity.link;
-            own.is(link)
-        }
+        IdentityFound::Is(identity) => identity.link == link,
         IdentityFound::Nothing => false,
     }
 }
