@@ -1,6 +1,6 @@
 -- What is said over the records from a place on, as a loop over the places comes to it: at the end, and one record further.
 -- By the walk's two steps. Assumes nothing.
-use Prim.Native.Nat.{ℕ, zero, suc, ◌<◌}
+use Prim.Native.Nat.{ℕ, zero, suc, ◌+◌, ◌<◌}
 use mathlib.Core.Bool.{Bool, true, false}
 use mathlib.Core.List.{List, [], ◌∷◌}
 use mathlib.Core.Path.{◌≡◌, refl, ap, ◌∙◌}
@@ -71,7 +71,12 @@ keep_within f g so (r ∷ rs) = by_tests (keep_within f g so rs) (g r) (f r) ref
     by_tests rest false true p q = absurd (not_both p (so r q))
     by_tests rest false false p q = rest
 
--- the places from a place on, where a record stands there: the place, and those behind the record
-pub places_behind_more : (s : List ℕ) (at : ℕ) → whole_at s at ≡ true → places_behind s at ≡ at ∷ places_behind s (place_after s at)
+-- the places from a place on: none where no record stands there, else the place, and those behind the record
+pub places_behind_end : (s : List ℕ) (at : ℕ) → whole_at s at ≡ false → places_behind s at ≡ []
 unfolding places_behind
-places_behind_more s at e = places_hit (λ r. true) s at e refl
+places_behind_end s at e = places_end (λ r. true) s at e
+
+pub places_behind_more : (s : List ℕ) (at : ℕ) {r : List ℕ} → (whole_at s at ≡ true) × (r ≡ record_at s at)
+    → places_behind s at ≡ at ∷ places_behind s (at + length r)
+unfolding places_behind
+places_behind_more s at w = rw (w.1, ← (after_whole s at w.0)) (places_hit (λ r. true) s at w.0 refl)

@@ -1,19 +1,24 @@
 -- `PlacesFrom::next` yields the first place that is left. By whether a record stands there. Assumes nothing.
-use Rattle.std.proofs.Common.{rules, arith, ◌<◌, length}
+use Rattle.std.proofs.Common.{arith, ◌+◌, ◌<◌, length}
 use Rattle.records.specs.Said.{places_behind}
-use Rattle.records.proofs.Records.{stands, stands_not}
-use Rattle.records.proofs.Said.{places_end, places_behind_more}
+use Rattle.records.proofs.Records.{after_whole, after_within}
+use Rattle.records.proofs.Said.{places_behind_end, places_behind_more}
 use Rattle.records.proofs.PlacesFromIterator.next.Goals as goal
 
-pub returns-then-at-next-clause-steps : goal.returns-then-at-next-clause-steps
-returns-then-at-next-clause-steps c = rw c.after-next.ensures (places_behind_more _ _ (stands _ _ c.after-next.ensures c.if-at-next.true))
+pub returns-in_err-whole-clause-steps : goal.returns-in_err-whole-clause-steps
+returns-in_err-whole-clause-steps c = let e = places_behind_end _ _ (c.in_err-whole.ensures) in rw c.from_residual.ensures (e, e)
 
-pub returns-then-at-next-clause-goes : goal.returns-then-at-next-clause-goes
-returns-then-at-next-clause-goes c =
-    let later : length (places_behind c.args.self.now.octets.now c.after-next.result) < length (places_behind c.args.self.now.octets.now c.args.self.now.at) =
-    rw c.after-next.ensures (rw (places_behind_more _ _ (stands _ _ c.after-next.ensures c.if-at-next.true)) (omega arith)) in
-    grind (arith, later)
+pub overflow_add-self : goal.overflow_add-self
+overflow_add-self c =
+    let w = c.in_ok-whole.ensures in
+    rw w.1 (let h = after_within _ _ w.0 in omega (arith, after_whole _ _ w.0))
 
 pub returns-clause-steps : goal.returns-clause-steps
-unfolding places_behind
-returns-clause-steps c = let e = places_end _ _ _ (stands_not _ _ c.after-next.ensures c.if-at-next.false) in (e, e)
+returns-clause-steps c = places_behind_more _ _ (c.in_ok-whole.ensures)
+
+pub returns-clause-goes : goal.returns-clause-goes
+returns-clause-goes c =
+    let it = c.args.self.now in
+    let later : length (places_behind it.octets.now (it.at + length c.in_ok-whole.whole.now)) < length (places_behind it.octets.now it.at) =
+    rw (places_behind_more it.octets.now it.at (c.in_ok-whole.ensures)) (omega arith) in
+    grind (arith, later)
