@@ -1,6 +1,6 @@
 -- The first rule that applies to a message. Document 01, "First that applies", one line a rule, in its order; 17 as document 02, #101, has it.
 -- Assumes nothing.
-use Rattle.std.specs.Prelude.{ℕ, Bool, true, false, not, ◌&&◌, ◌||◌, List, [], eqb, length, Option, Some, None}
+use Rattle.std.specs.Prelude.{is_some, ℕ, Bool, true, false, not, ◌&&◌, ◌||◌, List, [], eqb, length, Option, Some, None}
 use Rattle.octets.specs.First.{When, ◌⇒◌▸◌, first_of◌else◌}
 use Rattle.address.specs.declared.PointAddress.{PointAddress}
 use Rattle.address.specs.Address.{same_point}
@@ -31,8 +31,7 @@ marked cause = not (eqb (t_of cause) 0) || not (eqb (pn_of cause) 0)
 
 -- type in the table
 abbrev pub listed : Option Row → Bool
-listed (Some r) = true
-listed None = false
+listed row = is_some row
 
 -- no session
 abbrev pub is_closed : Session → Bool
@@ -41,8 +40,7 @@ is_closed (Open p) = false
 
 -- point in the image
 abbrev pub known : Option Point → Bool
-known (Some p) = true
-known None = false
+known found = is_some found
 
 -- session of another point
 abbrev pub is_other : Session → PointAddress → Bool
@@ -82,8 +80,7 @@ none_in query image = eqb (length (choice query image)) 0
 
 -- with switch dates
 abbrev pub dated : Option Dates → Bool
-dated (Some d) = true
-dated None = false
+dated found = is_some found
 
 -- the right password of a point
 abbrev pub opens : Option Point → ℕ → Bool

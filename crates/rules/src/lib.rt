@@ -12,7 +12,7 @@ ghost use Rattle.rules.specs.Decide.{marked, is_closed, known, is_other, shaped_
 
 use address::PointAddress;
 use choice::{Query, Span};
-use fields::{Dates, Point};
+use fields::Point;
 use label::LabelB;
 use message::{Addresses, Deed, Request, Row};
 
@@ -53,25 +53,22 @@ impl Rule {
         ensures { result ≡ cause_by self }
     {
         match self {
-            Rule::Marked => 14,
-            Rule::UnknownType => 14,
-            Rule::NoSession => 14,
-            Rule::UnknownPoint => 16,
-            Rule::OtherSession => 14,
-            Rule::Shape => 14,
+            Rule::Marked
+            | Rule::UnknownType
+            | Rule::NoSession
+            | Rule::OtherSession
+            | Rule::Shape
+            | Rule::NoDates => 14,
             Rule::Address => 15,
+            Rule::UnknownPoint => 16,
             Rule::Objects => 17,
-            Rule::ReadingLabel => 18,
-            Rule::ReadingRange => 18,
-            Rule::NoReading => 18,
-            Rule::EventLabel => 18,
-            Rule::EventRange => 18,
-            Rule::NoEvent => 13,
-            Rule::ClockUnset => 13,
-            Rule::NoDates => 14,
-            Rule::TimeLabel => 7,
-            Rule::WrongPassword => 7,
-            Rule::Accepted => 7,
+            Rule::ReadingLabel
+            | Rule::ReadingRange
+            | Rule::NoReading
+            | Rule::EventLabel
+            | Rule::EventRange => 18,
+            Rule::NoEvent | Rule::ClockUnset => 13,
+            Rule::TimeLabel | Rule::WrongPassword | Rule::Accepted => 7,
         }
     }
 
@@ -79,11 +76,7 @@ impl Rule {
     pub fn pn(self) -> bool
         ensures { result ≡ pn_by self }
     {
-        match self {
-            Rule::TimeLabel => true,
-            Rule::WrongPassword => true,
-            _ => false,
-        }
+        matches!(self, Rule::TimeLabel | Rule::WrongPassword)
     }
 
     // What a message does by a rule: accepted, what its row says.
@@ -99,25 +92,23 @@ impl Rule {
 }
 
 // What a request chooses: its point's records of that record address, from the first label to the last.
+#[tactic(auto, unfolding(crate::specs::Decide::span_of))]
 pub fn span_of(request: Request) -> Span
     ensures { result ≡ span_of request }
 {
-    let point = request.header.point;
     Span {
-        point,
+        point: request.header.point,
         record_address: request.header.record_address,
         first: request.first.instant(),
         last: request.last.instant(),
     }
 }
 
+// T and P/N are the two highest bits.
 fn is_marked(cause: u8) -> bool
     ensures { result ≡ marked cause }
 {
-    if cause / 128 % 2 != 0 {
-        return true;
-    }
-    cause / 64 % 2 != 0
+    cause / 128 % 2 != 0 || cause / 64 % 2 != 0
 }
 
 // A type other than 183 needs a session.
@@ -130,44 +121,22 @@ fn lacks_session(session: Session, type_id: u8) -> bool
     }
 }
 
-fn is_known(found: Option<Point>) -> bool
-    ensures { result ≡ known found }
-{
-    match found {
-        Some(_) => true,
-        None => false,
-    }
-}
-
 // And it needs the session of its own point.
 fn is_other(session: Session, point: PointAddress, type_id: u8) -> bool
     ensures { result ≡ (is_other session point && not (eqb type_id 183)) }
 {
     match session {
         Session::Closed => false,
-        Session::Open(own) => differs(own, point, type_id),
+        Session::Open(own) => own != point && type_id != 183,
     }
-}
-
-fn differs(own: PointAddress, point: PointAddress, type_id: u8) -> bool
-    ensures { result ≡ (not (eqb own.0 point.0) && not (eqb type_id 183)) }
-{
-    if own.0 == point.0 {
-        return false;
-    }
-    type_id != 183
 }
 
 fn is_shaped(row: Row, request: Request) -> bool
     ensures { result ≡ shaped_as row request }
 {
-    if request.header.structure != row.count {
-        return false;
-    }
-    if request.octets != row.octets as usize {
-        return false;
-    }
-    request.header.cause % 64 == row.cause
+    request.header.structure == row.count
+        && request.octets == row.octets as usize
+        && request.header.cause % 64 == row.cause
 }
 
 fn is_addressed(addresses: Addresses, address: u8) -> bool
@@ -179,15 +148,14 @@ fn is_addressed(addresses: Addresses, address: u8) -> bool
     }
 }
 
+#[tactic(auto, unfolding(crate::specs::Decide::labels_valid))]
 fn are_labels_valid(request: Request) -> bool
     ensures { result ≡ labels_valid request }
 {
-    if request.first.is_valid() {
-        return request.last.is_valid();
-    }
-    false
+    request.first.is_valid() && request.last.is_valid()
 }
 
+#[tactic(auto, unfolding(crate::specs::Decide::first_after_last))]
 fn is_first_after_last(request: Request) -> bool
     ensures { result ≡ first_after_last request }
 {
@@ -198,19 +166,13 @@ fn is_first_after_last(request: Request) -> bool
 fn is_none(image: &[u8], query: Query) -> bool
     ensures { result ≡ none_in query image.now }
 {
-    match choice::find(image, query, 0) {
-        Some(_) => false,
-        None => true,
-    }
+    choice::find(image, query, 0).is_none()
 }
 
-fn is_dated(found: Option<Dates>) -> bool
-    ensures { result ≡ dated found }
+fn is_dated(image: &[u8]) -> bool
+    ensures { result ≡ dated (dates_found image.now) }
 {
-    match found {
-        Some(_) => true,
-        None => false,
-    }
+    fields::dates_of(image).is_some()
 }
 
 fn does_open(found: Option<Point>, password: u32) -> bool
@@ -226,10 +188,7 @@ fn does_open(found: Option<Point>, password: u32) -> bool
 fn unless(holds: bool, rule: Rule) -> Rule
     ensures { result ≡ (when not holds then rule else Accepted) }
 {
-    if holds {
-        return Rule::Accepted;
-    }
-    rule
+    if holds { Rule::Accepted } else { rule }
 }
 
 // Labels, their order and what they choose, each refused by its rule.
@@ -243,52 +202,50 @@ fn ranged(
 ) -> Rule
     ensures { result ≡ (when not (labels_valid request) then label else when first_after_last request then range else when none_in query image.now then none else Accepted) }
 {
-    if are_labels_valid(request) {
-        if is_first_after_last(request) {
-            return range;
-        }
-        if is_none(image, query) {
-            return none;
-        }
-        return Rule::Accepted;
+    if !are_labels_valid(request) {
+        label
+    } else if is_first_after_last(request) {
+        range
+    } else if is_none(image, query) {
+        none
+    } else {
+        Rule::Accepted
     }
-    label
 }
 
 fn for_readings(image: &[u8], request: Request) -> Rule
     ensures { result ≡ (when not (objects_offered request.objects) then Objects else when not (labels_valid request) then ReadingLabel else when first_after_last request then ReadingRange else when none_in (Reading (span_of request)) image.now then NoReading else Accepted) }
 {
-    let objects = request.objects;
-    if objects.are_offered() {
-        return ranged(
+    if request.objects.are_offered() {
+        ranged(
             image,
             request,
             Query::Reading(span_of(request)),
             Rule::ReadingLabel,
             Rule::ReadingRange,
             Rule::NoReading,
-        );
+        )
+    } else {
+        Rule::Objects
     }
-    Rule::Objects
 }
 
 fn for_switch(image: &[u8], request: Request) -> Rule
     ensures { result ≡ (when not (dated (dates_found image.now)) then NoDates else when not (labels_valid request) then TimeLabel else Accepted) }
 {
-    if is_dated(fields::dates_of(image)) {
-        return unless(are_labels_valid(request), Rule::TimeLabel);
+    if is_dated(image) {
+        unless(are_labels_valid(request), Rule::TimeLabel)
+    } else {
+        Rule::NoDates
     }
-    Rule::NoDates
 }
 
+#[tactic(auto, unfolding(crate::specs::Decide::by_type, crate::specs::Decide::labels_valid, crate::specs::Decide::first_after_last, crate::specs::Decide::span_of, message::specs::Requests::asks_readings))]
 fn by_type(image: &[u8], clock: [u8; 7], request: Request) -> Rule
     ensures { result ≡ by_type image.now clock request }
 {
-    let type_id = request.header.type_id;
-    let point = request.header.point;
-    match type_id {
-        122 => for_readings(image, request),
-        123 => for_readings(image, request),
+    match request.header.type_id {
+        122 | 123 => for_readings(image, request),
         102 => ranged(
             image,
             request,
@@ -300,57 +257,44 @@ fn by_type(image: &[u8], clock: [u8; 7], request: Request) -> Rule
         103 => unless(LabelB::read(&clock).is_valid(), Rule::ClockUnset),
         181 => unless(request.time.is_valid(), Rule::TimeLabel),
         183 => unless(
-            does_open(fields::point_of(image, point), request.password),
+            does_open(
+                fields::point_of(image, request.header.point),
+                request.password,
+            ),
             Rule::WrongPassword,
         ),
-        185 => unless(is_dated(fields::dates_of(image)), Rule::NoDates),
+        185 => unless(is_dated(image), Rule::NoDates),
         186 => for_switch(image, request),
         _ => Rule::Accepted,
     }
 }
 
-// The rules from the shape on: what the row of its type asks of a message, and what its type does.
-fn by_row(image: &[u8], clock: [u8; 7], request: Request, row: Row) -> Rule
-    ensures { result ≡ (when not (shaped_as row request) then Shape else when not (addressed_as row.addresses request.header.record_address) then Address else by_type image.now clock request) }
-{
-    let addresses = row.addresses;
-    if is_shaped(row, request) {
-        if is_addressed(addresses, request.header.record_address) {
-            return by_type(image, clock, request);
-        }
-        return Rule::Address;
-    }
-    Rule::Shape
-}
-
-// The rules from the session on, of a message whose type is listed.
-fn listed(session: Session, image: &[u8], clock: [u8; 7], request: Request, row: Row) -> Rule
-    requires { (marked request.header.cause ≡ false) × (row_in table request.header.type_id ≡ Some row) }
-    ensures { result ≡ decide session image.now clock request }
-{
-    let type_id = request.header.type_id;
-    let point = request.header.point;
-    if lacks_session(session, type_id) {
-        return Rule::NoSession;
-    }
-    if is_known(fields::point_of(image, point)) {
-        if is_other(session, point, type_id) {
-            return Rule::OtherSession;
-        }
-        return by_row(image, clock, request, row);
-    }
-    Rule::UnknownPoint
-}
-
-// The first rule that applies to a message. No waiting reply is looked at, and nothing is changed.
+// The first rule that applies to a message, in document 01's order. No waiting reply is looked at, and nothing is changed.
+#[tactic(auto, unfolding(crate::specs::Decide::decide))]
 pub fn decide(session: Session, image: &[u8], clock: [u8; 7], request: Request) -> Rule
     ensures { result ≡ decide session image.now clock request }
 {
-    if is_marked(request.header.cause) {
+    let header = request.header;
+    if is_marked(header.cause) {
         return Rule::Marked;
     }
-    match message::row_of(request.header.type_id) {
-        Some(row) => listed(session, image, clock, request, row),
-        None => Rule::UnknownType,
+    let Some(row) = message::row_of(header.type_id) else {
+        return Rule::UnknownType;
+    };
+    if lacks_session(session, header.type_id) {
+        return Rule::NoSession;
     }
+    if fields::point_of(image, header.point).is_none() {
+        return Rule::UnknownPoint;
+    }
+    if is_other(session, header.point, header.type_id) {
+        return Rule::OtherSession;
+    }
+    if !is_shaped(row, request) {
+        return Rule::Shape;
+    }
+    if !is_addressed(row.addresses, header.record_address) {
+        return Rule::Address;
+    }
+    by_type(image, clock, request)
 }

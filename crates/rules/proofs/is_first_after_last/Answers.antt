@@ -1,5 +1,5 @@
 -- `is_first_after_last` answers whether the first label lies after the last.
--- The last is before it. Assumes nothing.
+-- By its call. Assumes nothing.
 use Rattle.rules.specs.Decide.{first_after_last}
 use Rattle.rules.proofs.is_first_after_last.Goals as goal
 
