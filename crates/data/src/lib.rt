@@ -14,7 +14,7 @@ use address::PointAddress;
 use choice::{Query, Span};
 use fields::{Dates, Identity};
 use message::{Header, ObjectRange};
-use octets::Kept;
+use octets::{Kept, Number};
 
 // A message, and how many of the chosen records it has; none, and no octets, when no record is left.
 #[derive(Clone, Copy)]
@@ -34,15 +34,14 @@ fn headed(type_id: u8, count: u8, point: PointAddress, address: u8) -> Kept
         point,
         record_address: address,
     };
-    let octets = header.octets();
-    Kept::new().with(&octets)
+    Kept::new().with(&header.octets())
 }
 
 // Type 71: what the meter is.
 pub fn identity(point: PointAddress, head: Identity) -> Kept
     ensures { result ≡ kept_of (identity_reply point head) }
 {
-    let product = octets::low_octets_4(head.product);
+    let product = head.product.low_octets();
     headed(71, 1, point, 0).with(&[
         head.date, head.maker, product[0], product[1], product[2], product[3],
     ])
@@ -59,9 +58,9 @@ pub fn clock(point: PointAddress, clock: [u8; 7]) -> Kept
 pub fn dates(point: PointAddress, dates: Dates) -> Kept
     ensures { result ≡ kept_of (dates_reply point dates) }
 {
-    let first = dates.first.octets();
-    let second = dates.second.octets();
-    headed(131, 1, point, 0).with(&first).with(&second)
+    headed(131, 1, point, 0)
+        .with(&dates.first.octets())
+        .with(&dates.second.octets())
 }
 
 // Number, value and quality of an object of the reading at a place. A reading has all six, so the way out is never taken.
@@ -74,7 +73,7 @@ fn object_octets(image: &[u8], at: usize, object: u8) -> [u8; 6]
     let Some(found) = fields::value_at(image, at, object) else {
         return [0; 6];
     };
-    let value = octets::low_octets_4(octets::unsigned(found.value));
+    let value = octets::unsigned(found.value).low_octets();
     [
         object,
         value[0],
@@ -91,18 +90,12 @@ fn reading_at(image: &[u8], at: usize, span: Span, objects: ObjectRange, type_id
     requires objects_value { objects_offered objects ≡ true }
     ensures { result ≡ kept_of (reading_reply type_id span.point span.record_address objects (record_at image.now at)) }
 {
-    let point = span.point;
     let many = objects.last - objects.first + 1;
-    let mut message = headed(type_id, many, point, span.record_address);
-    let mut object = objects.first;
-    while object <= objects.last {
-        let octets = object_octets(image, at, object);
-        message = message.with(&octets);
-        object += 1;
+    let mut message = headed(type_id, many, span.point, span.record_address);
+    for object in objects.first..objects.last + 1 {
+        message = message.with(&object_octets(image, at, object));
     }
-    let key = fields::key_at(image, at);
-    let label = key.label.a.octets();
-    message.with(&label)
+    message.with(&fields::key_at(image, at).label.a.octets())
 }
 
 // No octets, and none of the chosen records.
@@ -126,16 +119,16 @@ pub fn reading(
 ) -> Portion
     ensures { result ≡ next_reading type_id span objects image.now before }
 {
-    if objects.are_offered() {
-        let Some(at) = choice::find(image, Query::Reading(span), before) else {
-            return none();
-        };
-        return Portion {
-            message: reading_at(image, at, span, objects, type_id),
-            many: 1,
-        };
+    if !objects.are_offered() {
+        return none();
     }
-    none()
+    let Some(at) = choice::find(image, Query::Reading(span), before) else {
+        return none();
+    };
+    Portion {
+        message: reading_at(image, at, span, objects, type_id),
+        many: 1,
+    }
 }
 
 // SPA, SPQ/SPI octet and time b of the event at a place, which is there.
@@ -158,26 +151,15 @@ fn gathered(image: &[u8], span: Span, before: usize) -> Portion
 {
     let query = Query::Event(span);
     let mut message = Kept::new();
-    let mut many = 0;
     let mut found = choice::find(image, query, before);
-    while many < 27 {
+    for many in 0..27 {
         let Some(at) = found else {
             return Portion { message, many };
         };
-        let octets = event_octets(image, at);
-        message = message.with(&octets);
-        many += 1;
+        message = message.with(&event_octets(image, at));
         found = choice::next(image, query, records::after(image, at));
     }
-    Portion { message, many }
-}
-
-// The octets of one message behind those of another.
-fn followed(first: Kept, second: Kept) -> Kept
-    ensures { result ≡ added first (octets_of second) }
-{
-    let octets = second.octets;
-    first.with(octets::part(&octets, 0, second.length as usize))
+    Portion { message, many: 27 }
 }
 
 // Type 1: of the chosen events up to 27 after those that are given already. Where none is left nothing is gathered: no octets, no header.
@@ -185,14 +167,12 @@ pub fn events(image: &[u8], span: Span, before: usize) -> Portion
     ensures { result ≡ next_events span image.now before }
 {
     let next = gathered(image, span, before);
-    let many = next.many;
-    if many == 0 {
+    if next.many == 0 {
         return next;
     }
-    let point = span.point;
-    let octets = next.message;
+    let header = headed(1, next.many as u8, span.point, span.record_address);
     Portion {
-        message: followed(headed(1, many as u8, point, span.record_address), octets),
-        many,
+        message: header.with(next.message.as_slice()),
+        ..next
     }
 }

@@ -9,5 +9,5 @@ use Rattle.data.proofs.dates.Goals as goal
 pub returns : goal.returns
 unfolding dates_reply label_a_octets
 returns c =
-    header_and_two _ _ _ _ _ _ c.headed.ensures c.with.ensures c.octets-first.ensures c.with-2.ensures c.octets-second.ensures
+    header_and_two _ _ _ _ _ _ c.headed.ensures c.with.ensures c.octets.ensures c.with-2.ensures c.octets-2.ensures
     (omega arith)

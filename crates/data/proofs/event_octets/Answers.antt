@@ -9,4 +9,4 @@ returns-in_default c = absurd (event_not_missing _ _ c.requires c.event_at.ensur
 
 pub returns : goal.returns
 unfolding label_a_octets label_b_octets
-returns c = rw c.octets-label.ensures (octets_of_event _ _ c.requires c.event_at.ensures c.in-Is.is)
+returns c = rw c.octets-label.ensures (octets_of_event _ _ c.requires c.event_at.ensures c.in-Some.is)

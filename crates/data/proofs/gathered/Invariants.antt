@@ -5,7 +5,4 @@ use Rattle.data.proofs.Portions.{Gathered}
 use Rattle.data.proofs.gathered.Given as goal
 
 abbrev pub invariant-loop-many : goal.invariant-loop-many
-invariant-loop-many l = (l.many ≤ 27) × Gathered l.query l.image l.before l.message l.many l.found
-
-abbrev pub decreases-loop-many : goal.decreases-loop-many
-decreases-loop-many l = 27 - l.many
+invariant-loop-many l = Gathered l.query l.image l.before l.message l.many l.found

@@ -6,4 +6,4 @@ use Rattle.data.proofs.headed.Goals as goal
 
 pub returns : goal.returns
 unfolding reply_header
-returns c = header_only _ _ _ _ c.new.ensures c.with.ensures c.octets-octets.ensures
+returns c = header_only _ _ _ _ c.new.ensures c.with.ensures c.octets.ensures

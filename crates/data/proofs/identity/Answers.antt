@@ -8,4 +8,4 @@ use Rattle.data.proofs.identity.Goals as goal
 
 pub returns : goal.returns
 unfolding identity_reply low_octets
-returns c = header_and _ _ _ _ _ c.headed.ensures c.with.ensures (rw c.low_octets_4-product.ensures) (omega arith)
+returns c = header_and _ _ _ _ _ c.headed.ensures c.with.ensures (rw c.low_octets-product.ensures) (omega arith)

@@ -13,6 +13,6 @@ returns-in_default c = absurd (value_not_missing _ _ _ c.requires.at_value c.req
 pub returns : goal.returns
 unfolding low_octets
 returns c =
-    let fits : SFits w32 c.in-Is.found.value = record { sfits = c.struct_told-1.given.0.1 } in
-    rw (c.low_octets_4-value.ensures, c.unsigned.ensures, to_z-of_z fits)
-    (object_of_value _ _ _ c.requires.at_value c.requires.le_object c.requires.object_bound c.value_at.ensures c.in-Is.is)
+    let fits : SFits w32 c.in-Some.found.value = record { sfits = c.struct_told-1.given.0.1 } in
+    rw (c.low_octets-value.ensures, c.unsigned.ensures, to_z-of_z fits)
+    (object_of_value _ _ _ c.requires.at_value c.requires.le_object c.requires.object_bound c.value_at.ensures c.in-Some.is)

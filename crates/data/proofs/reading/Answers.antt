@@ -6,16 +6,16 @@ use Rattle.data.proofs.Portions.{not_offered, no_reading, some_reading, reading_
 use Rattle.data.proofs.reading.Goals as goal
 
 pub returns-in_default : goal.returns-in_default
-returns-in_default c = no_reading _ _ _ _ _ (told c.are_offered.ensures c.if-are_offered.true) c.find.ensures c.in_default.is c.none.ensures
+returns-in_default c = no_reading _ _ _ _ _ (sym c.are_offered.ensures ∙ c.if-not-are_offered.false) c.find.ensures c.in_default.is c.none-in_default.ensures
 
 pub reading_at-requires : goal.reading_at-requires
 reading_at-requires c = record {
-  at_value = reading_found _ _ _ _ (sym c.find.ensures ∙ c.in-At.is);
-  objects_value = told c.are_offered.ensures c.if-are_offered.true;
+  at_value = reading_found _ _ _ _ (sym c.find.ensures ∙ c.in-Some.is);
+  objects_value = sym c.are_offered.ensures ∙ c.if-not-are_offered.false;
 }
 
-pub returns-then-are_offered : goal.returns-then-are_offered
-returns-then-are_offered c = some_reading _ _ _ _ _ (told c.are_offered.ensures c.if-are_offered.true) c.find.ensures _ c.in-At.is c.reading_at.ensures
-
 pub returns : goal.returns
-returns c = not_offered _ _ _ _ _ (told c.are_offered.ensures c.if-are_offered.false) c.none-2.ensures
+returns c = some_reading _ _ _ _ _ (sym c.are_offered.ensures ∙ c.if-not-are_offered.false) c.find.ensures _ c.in-Some.is c.reading_at.ensures
+
+pub returns-then-not-are_offered : goal.returns-then-not-are_offered
+returns-then-not-are_offered c = not_offered _ _ _ _ _ (sym c.are_offered.ensures ∙ c.if-not-are_offered.true) c.none.ensures

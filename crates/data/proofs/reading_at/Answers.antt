@@ -20,6 +20,11 @@ overflow_add-many c =
     let o = offered_so _ c.requires.objects_value in
     search rules
 
+pub overflow_add-object-end : goal.overflow_add-object-end
+overflow_add-object-end c =
+    let o = offered_so _ c.requires.objects_value in
+    search rules
+
 pub loop-object-init : goal.loop-object-init
 loop-object-init c =
     let o = offered_so _ c.requires.objects_value in
@@ -29,7 +34,7 @@ pub loop-object-preserved : goal.loop-object-preserved
 loop-object-preserved c =
     let l = c.loop-object in
     let o = l.invariant.0 in
-    (o, search rules, search rules, λ xs six e. with_object _ o xs _ six _ l.invariant.1 (search rules) (l.invariant.3 xs six e) c.with-message.ensures c.object_octets-octets.ensures)
+    (o, search rules, search rules, λ xs six e. with_object _ o xs _ six _ l.invariant.1 (search rules) (l.invariant.3 xs six e) c.with-message.ensures c.object_octets.ensures)
 
 pub returns : goal.returns
 unfolding reading_reply objects_many
@@ -41,4 +46,4 @@ returns c =
     let six = header_length a.type_id (objects_many a.objects) a.span.point a.span.record_address in
     let behind : l.object ≡ a.objects.last + 1 = search rules in
     with_label _ o header _ six _ behind (l.invariant.3 header six c.headed-message.ensures) c.with.ensures
-    (label_of_key _ _ c.requires.at_value c.key_at-key.ensures c.octets-label.ensures)
+    (label_of_key _ _ c.requires.at_value c.key_at.ensures c.octets.ensures)

@@ -11,7 +11,4 @@ use Rattle.data.specs.Messages.{objects_octets}
 use Rattle.data.proofs.reading_at.Given as goal
 
 abbrev pub invariant-loop-object : goal.invariant-loop-object
-invariant-loop-object l = Offered l.objects × (l.objects.first ≤ l.object) × (l.object ≤ l.objects.last + 1) × ((xs : List ℕ) → length xs ≡ 6 → l.initial.message ≡ kept_of xs → l.message ≡ kept_of (xs ++ objects_octets l.objects.first (l.object - l.objects.first) (record_at l.image l.at)))
-
-abbrev pub decreases-loop-object : goal.decreases-loop-object
-decreases-loop-object l = l.objects.last + 1 - l.object
+invariant-loop-object l = Offered l.fn.objects × (l.fn.objects.first ≤ l.object) × (l.object ≤ l.fn.objects.last + 1) × ((xs : List ℕ) → length xs ≡ 6 → l.initial.message ≡ kept_of xs → l.message ≡ kept_of (xs ++ objects_octets l.fn.objects.first (l.object - l.fn.objects.first) (record_at l.image l.at)))
