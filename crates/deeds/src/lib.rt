@@ -26,6 +26,8 @@ pub enum Waiting {
     Type131,
 }
 
+// An order to the meter. Its time octets stand beside it and not in it, and no order is a case of it and no None: `tender`'s theorems (`no_time_law`,
+// the wrong card `babbler`) say what the time octets are where there is no order.
 #[derive(Clone, Copy)]
 pub enum Order {
     NoOrder,
@@ -66,10 +68,7 @@ fn deed_of(rule: Rule, type_id: u8) -> Deed
     ensures { result ≡ deed_of rule (row_in table type_id) }
 {
     match message::row_of(type_id) {
-        Some(row) => {
-            let deed = row.deed;
-            rule.deed(deed)
-        }
+        Some(row) => rule.deed(row.deed),
         None => rule.deed(Deed::Refused),
     }
 }
@@ -78,9 +77,10 @@ fn mirror_by(rule: Rule) -> Waiting
     ensures { result ≡ mirror_by rule }
 {
     if rule.pn() {
-        return Waiting::Denied;
+        Waiting::Denied
+    } else {
+        Waiting::Mirror(rule.cause())
     }
-    Waiting::Mirror(rule.cause())
 }
 
 fn leaving(session: Session, waiting: Waiting) -> Done
@@ -99,11 +99,9 @@ fn ordering(session: Session, order: Order, time: [u8; 10]) -> Done
     ensures { result ≡ ordering session order time }
 {
     Done {
-        session,
         order,
         time,
-        waiting: Waiting::Mirror(7),
-        clock: [0; 7],
+        ..leaving(session, Waiting::Mirror(7))
     }
 }
 
@@ -125,19 +123,15 @@ fn dates_octets(first: LabelA, last: LabelA) -> [u8; 10]
 fn done_by(rule: Rule, session: Session, clock: [u8; 7], request: Request, deed: Deed) -> Done
     ensures { result ≡ done_by rule session clock request deed }
 {
-    let point = request.header.point;
     match deed {
         Deed::Refused => leaving(session, mirror_by(rule)),
         Deed::ShutOut => leaving(Session::Closed, mirror_by(rule)),
-        Deed::Opens => leaving(Session::Open(point), Waiting::Mirror(7)),
+        Deed::Opens => leaving(Session::Open(request.header.point), Waiting::Mirror(7)),
         Deed::Closes => leaving(Session::Closed, Waiting::Mirror(7)),
         Deed::Gives71 => leaving(session, Waiting::Type71),
         Deed::Gives72 => Done {
-            session,
-            order: Order::NoOrder,
-            time: [0; 10],
-            waiting: Waiting::Type72,
             clock,
+            ..leaving(session, Waiting::Type72)
         },
         Deed::Gives131 => leaving(session, Waiting::Type131),
         Deed::GivesData => leaving(session, Waiting::Begin),
@@ -151,35 +145,36 @@ fn done_by(rule: Rule, session: Session, clock: [u8; 7], request: Request, deed:
 }
 
 // The first rule that applies decides what a message does.
+#[tactic(auto, unfolding(crate::specs::Deeds::carried_out))]
 pub fn carry_out(session: Session, image: &[u8], clock: [u8; 7], request: Kept) -> Carried
     ensures { result ≡ carried_out session image.now clock request }
 {
-    let octets = request.octets;
-    let read = Request::read(octets::part(&octets, 0, request.length as usize));
+    let read = Request::read(request.as_slice());
     let rule = rules::decide(session, image, clock, read);
     let deed = deed_of(rule, read.header.type_id);
-    let done = done_by(rule, session, clock, read, deed);
-    let session = done.session;
-    let order = done.order;
-    let time = done.time;
-    let waiting = done.waiting;
-    let clock = done.clock;
-    let pending = Pending {
+    let Done {
+        session,
+        order,
+        time,
         waiting,
-        request,
         clock,
-    };
+    } = done_by(rule, session, clock, read, deed);
     Carried {
         rule,
         deed,
         session,
         order,
         time,
-        pending,
+        pending: Pending {
+            waiting,
+            request,
+            clock,
+        },
     }
 }
 
 impl Pending {
+    #[tactic(auto, unfolding(crate::specs::Deeds::nothing_pending))]
     pub fn new() -> Pending
         ensures { result ≡ nothing_pending }
     {
@@ -194,10 +189,6 @@ impl Pending {
     pub fn is_waiting(self) -> bool
         ensures { result ≡ is_waiting self.waiting }
     {
-        let waiting = self.waiting;
-        match waiting {
-            Waiting::NoReply => false,
-            _ => true,
-        }
+        !matches!(self.waiting, Waiting::NoReply)
     }
 }

@@ -1,6 +1,5 @@
 -- `gathered` answers up to 27 events' octets, and how many events these are.
 -- The loop's invariant: so many of those left are gathered, and the next is found. Assumes nothing.
-use Prim.Native.Nat.{◌-◌, ◌≤◌}
 use Rattle.data.proofs.Portions.{Gathered}
 use Rattle.data.proofs.gathered.Given as goal
 

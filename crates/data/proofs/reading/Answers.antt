@@ -1,7 +1,6 @@
 -- `reading` answers the message of the reading after those given already, with the objects that are asked for.
 -- By whether they are offered and whether a reading is found. Assumes nothing.
 use mathlib.Core.Path.{sym, ◌∙◌}
-use Rattle.octets.proofs.Choice.{told}
 use Rattle.data.proofs.Portions.{not_offered, no_reading, some_reading, reading_found}
 use Rattle.data.proofs.reading.Goals as goal
 
