@@ -19,7 +19,7 @@ use Rattle.frame.specs.Writing.{plain}
 use Rattle.fields.specs.Answers.{identity_found}
 use Rattle.deeds.specs.declared.Order.TheVariants.{NoOrder}
 use Rattle.deeds.specs.Deeds.{is_waiting, carried_out}
-use Rattle.waiting.specs.NextReply.{next_of}
+use Rattle.waiting.specs.NextReply.{next_of, is_given, message_in}
 use Rattle.link.specs.declared.Link.{Link}
 use Rattle.link.specs.declared.Sends.{Sends}
 use Rattle.link.specs.declared.Sends.TheVariants.{NotReset, Remembered, Status}
@@ -65,11 +65,11 @@ module _ (link : Link) (user : Kept) (image clock : List ℕ) where
     as_nack : {bit : ℕ} → Fresh link bit → (is_waiting link.pending.waiting || ltb user.length 6) ≡ true → Way (UserData bit) (noted bit (plain Nack address) link)
     carried_out_law : {bit : ℕ} → Fresh link bit → (is_waiting link.pending.waiting || ltb user.length 6) ≡ false
         → Way (UserData bit) (carried address bit link (carried_out link.session image clock user))
-    as_given : {bit : ℕ} → Fresh link bit → (next_of link.pending image).found ≡ true
+    as_given : {bit : ℕ} → Fresh link bit → (is_given (next_of link.pending image)) ≡ true
         → Way (Collection bit)
         (answered_by Remembered
-        (after_new bit (data_reply (next_of link.pending image).message address) link.session (next_of link.pending image).pending link))
-    nothing_given : {bit : ℕ} → Fresh link bit → (next_of link.pending image).found ≡ false
+        (after_new bit (data_reply (message_in (next_of link.pending image)) address) link.session (next_of link.pending image).pending link))
+    nothing_given : {bit : ℕ} → Fresh link bit → (is_given (next_of link.pending image)) ≡ false
         → Way (Collection bit) (noted bit (plain NothingToGive address) link)
 
   of_counted : {asked : Service} {bit : ℕ} (afresh : Answered) → Counts asked bit → (Fresh link bit → Way asked afresh) → Way asked (counted bit link afresh)
@@ -88,7 +88,7 @@ module _ (link : Link) (user : Kept) (image clock : List ℕ) where
       of_counted _ user_data_law (λ fresh.
       either (Way (UserData bit)) (is_waiting link.pending.waiting || ltb user.length 6) (as_nack fresh) (carried_out_law fresh))
   way (Collection bit) =
-      of_counted _ collects (λ fresh. either (Way (Collection bit)) (next_of link.pending image).found (as_given fresh) (nothing_given fresh))
+      of_counted _ collects (λ fresh. either (Way (Collection bit)) (is_given (next_of link.pending image)) (as_given fresh) (nothing_given fresh))
 
 -- what answered user data or collection leaves: its FCB is the last, and the reply that is sent is the remembered one
 pub record Noted (bit : ℕ) (a : Answered) : Type 0 where
