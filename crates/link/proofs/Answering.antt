@@ -1,7 +1,10 @@
 -- The ways in which a frame is answered: reset, status, not reset, repeated, NACK, carried out, given, nothing to give.
 -- By the tests of the definition, one after the other. Assumes nothing.
+use Rattle.std.specs.Bool.{MatchBool}
 use Prim.Native.Nat.{ℕ}
-use mathlib.Core.Bool.{true, false, not, ◌||◌}
+use mathlib.Core.Bool.{Bool, true, false, not, ◌||◌}
+use Rattle.octets.specs.Choice.{when◌then◌else◌}
+use Rattle.link.specs.working.Counting.{IsCounted}
 use mathlib.Core.List.{List}
 use mathlib.Core.Path.{◌≡◌, refl, ap}
 use native.Mathlib.Omega.{arith}
@@ -46,6 +49,21 @@ module _ (bit : ℕ) (link : Link) (afresh : Answered) where
   pub with_new : link.reset ≡ true → (bit ≡ link.fcb → ⊥) → counted bit link afresh ≡ afresh
   unfolding counted
   with_new r n = rw (r, ne_eqb bit link.fcb n)
+
+-- what is told by a relation comes to what is counted, where the relation leaves one answer
+pub is_counted : (bit : ℕ) (link : Link) {Afresh : Answered → Type 0} {answer : Answered} (afresh : Answered) → IsCounted bit link Afresh answer
+    → ((x : Answered) → Afresh x → x ≡ afresh) → answer ≡ counted bit link afresh
+unfolding counted IsCounted
+is_counted bit link {Afresh = Afresh} {answer = answer} afresh c one = by_reset link.reset c
+  where
+    by_bit : (t : Bool) → MatchBool t (answer ≡ answered_by Remembered link) (Afresh answer) → answer ≡ (when t then answered_by Remembered link else afresh)
+    by_bit true e = e
+    by_bit false a = one answer a
+
+    by_reset : (t : Bool) → MatchBool t (MatchBool (eqb bit link.fcb) (answer ≡ answered_by Remembered link) (Afresh answer)) (answer ≡ answered_by NotReset link)
+        → answer ≡ (when not t then answered_by NotReset link else when eqb bit link.fcb then answered_by Remembered link else afresh)
+    by_reset true c = by_bit (eqb bit link.fcb) c
+    by_reset false e = e
 
 -- a new FCB, after a reset
 pub record Fresh (link : Link) (bit : ℕ) : Type 0 where
