@@ -1,11 +1,11 @@
 -- Every public contract of this crate leaves one outcome.
 -- By its one equation. Assumes nothing.
 use Rattle.octets.proofs.Outcome.{OneResult, one_outcome}
-use Rattle.address.proofs.LinkAddress.is.Reads as link_is
-use Rattle.address.proofs.PointAddress.is.Reads as point_is
+use Rattle.address.proofs.LinkAddressPartialEq.eq.Reads as link_eq
+use Rattle.address.proofs.PointAddressPartialEq.eq.Reads as point_eq
 
-link_is_one : OneResult link_is.Post
-link_is_one κs a r r' s s' = one_outcome
+link_eq_one : OneResult link_eq.Post
+link_eq_one κs a r r' s s' = one_outcome
 
-point_is_one : OneResult point_is.Post
-point_is_one κs a r r' s s' = one_outcome
+point_eq_one : OneResult point_eq.Post
+point_eq_one κs a r r' s s' = one_outcome

@@ -142,10 +142,7 @@ fn is_link(image: &[u8], link: LinkAddress) -> bool
     ensures { result ≡ is_link (identity_found image.now) link }
 {
     match fields::identity_of(image) {
-        Some(identity) => {
-            let own = identity.link;
-            own.is(link)
-        }
+        Some(identity) => identity.link == link,
         None => false,
     }
 }

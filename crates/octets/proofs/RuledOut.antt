@@ -1,6 +1,6 @@
 -- What the public contracts of this crate do not allow: two wrong outcomes or more of each.
 -- By computation, for all arguments where that is as short. Assumes nothing.
-use Rattle.std.proofs.Common.{◌≡◌, ℕ, ◌+◌, ◌-◌, ◌*◌, ◌/◌, ◌%◌, ◌<◌, ◌≤◌, true, false, List, [], ◌∷◌, length, get_or, replicate, pos, negsuc, ap, arith, lt-ltb, le-leb}
+use Rattle.std.proofs.Common.{◌≡◌, ℕ, ◌+◌, ◌-◌, ◌*◌, ◌/◌, ◌%◌, ◌<◌, ◌≤◌, true, false, List, [], ◌∷◌, length, get_or, replicate, pos, negsuc, ap, arith, lt-ltb, le-leb, Bor}
 use contract.Lifetimes.{Lfts}
 use lib.ListN.{get_or-eq_default}
 use borrow.Author.Tests.{lt-leb}
@@ -10,8 +10,14 @@ use Rattle.octets.specs.Sum.{octet_sum, checksum as checksum_of}
 use Rattle.octets.specs.Over.{over}
 use Rattle.octets.specs.Calls.{fits_at, added}
 use Rattle.octets.specs.declared.Kept.{Kept}
-use Rattle.octets.specs.Keeping.{kept_of}
+use Rattle.octets.specs.Keeping.{octets_of, kept_of}
 use Rattle.octets.proofs.Outcome.{RuledOut, RuledOutWith, Place, lent, lent_mut, never}
+use Rattle.octets.proofs.U16Number2.from_low_first.Reads as u16_low_first
+use Rattle.octets.proofs.U16Number2.from_high_first.Reads as u16_high_first
+use Rattle.octets.proofs.U16Number2.low_octets.Reads as u16_octets
+use Rattle.octets.proofs.U32Number4.from_low_first.Reads as u32_low_first
+use Rattle.octets.proofs.U32Number4.from_high_first.Reads as u32_high_first
+use Rattle.octets.proofs.U32Number4.low_octets.Reads as u32_octets
 use Rattle.octets.proofs.low_first_2.Reads as low_first_2
 use Rattle.octets.proofs.high_first_2.Reads as high_first_2
 use Rattle.octets.proofs.low_first_4.Reads as low_first_4
@@ -25,73 +31,128 @@ use Rattle.octets.proofs.octet_at.Reads as octet_at
 use Rattle.octets.proofs.part.Reads as part
 use Rattle.octets.proofs.put.Reads as put
 use Rattle.octets.proofs.Kept.new.Reads as kept_new
+use Rattle.octets.proofs.Kept.as_slice.Reads as kept_as_slice
 use Rattle.octets.proofs.Kept.with.Reads as kept_with
 
 module _ (κs : Lfts 0) where
   -- the octets swapped, whenever they differ
-  low_first_2_swapped : (a b : ℕ) → (a ≡ b → ⊥) → RuledOut (low_first_2.Post κs) (a, (b, tt)) (b + 256 * a)
+  u16_low_first_swapped : (a b : ℕ) → (a ≡ b → ⊥) → RuledOut (u16_low_first.Post κs) (a ∷ b ∷ [], tt) (b + 256 * a)
   unfolding low_first
-  low_first_2_swapped a b n s p = n (omega arith)
+  u16_low_first_swapped a b n s p = n (omega arith)
+
+  -- the second octet counted by 255, whenever it is not 0
+  u16_low_first_base : (a b : ℕ) → (b ≡ 0 → ⊥) → RuledOut (u16_low_first.Post κs) (a ∷ b ∷ [], tt) (a + 255 * b)
+  unfolding low_first
+  u16_low_first_base a b n s p = n (omega arith)
+
+  -- the octets read low octet first, whenever they differ
+  u16_high_first_swapped : (a b : ℕ) → (a ≡ b → ⊥) → RuledOut (u16_high_first.Post κs) (a ∷ b ∷ [], tt) (a + 256 * b)
+  unfolding low_first high_first
+  u16_high_first_swapped a b n s p = n (omega arith)
+
+  -- the second octet read twice, whenever it differs from the first
+  u16_high_first_same : (a b : ℕ) → (a ≡ b → ⊥) → RuledOut (u16_high_first.Post κs) (a ∷ b ∷ [], tt) (b + 256 * b)
+  unfolding low_first high_first
+  u16_high_first_same a b n s p = n (omega arith)
+
+  -- the halves swapped, whenever they differ
+  u32_low_first_halves : (a b c d : ℕ) → (a + 256 * b ≡ c + 256 * d → ⊥)
+      → RuledOut (u32_low_first.Post κs) (a ∷ b ∷ c ∷ d ∷ [], tt) (c + 256 * d + 65536 * (a + 256 * b))
+  unfolding low_first
+  u32_low_first_halves a b c d n s p = n (omega arith)
+
+  -- the upper half counted by 65,535, whenever it is not 0
+  u32_low_first_base : (a b c d : ℕ) → (c + 256 * d ≡ 0 → ⊥)
+      → RuledOut (u32_low_first.Post κs) (a ∷ b ∷ c ∷ d ∷ [], tt) (a + 256 * b + 65535 * (c + 256 * d))
+  unfolding low_first
+  u32_low_first_base a b c d n s p = n (omega arith)
+
+  -- the octets read low octet first, whenever the outer two differ
+  u32_high_first_low : (a b c d : ℕ) → b < 256 → c < 256 → (a ≡ d → ⊥)
+      → RuledOut (u32_high_first.Post κs) (a ∷ b ∷ c ∷ d ∷ [], tt) (a + 256 * (b + 256 * (c + 256 * d)))
+  unfolding low_first high_first
+  u32_high_first_low a b c d octet octet' n s p = n (omega arith)
+
+  -- the octets of each half swapped, whenever the first two differ
+  u32_high_first_words : (a b c d : ℕ) → c < 256 → d < 256 → (a ≡ b → ⊥)
+      → RuledOut (u32_high_first.Post κs) (a ∷ b ∷ c ∷ d ∷ [], tt) (c + 256 * (d + 256 * (a + 256 * b)))
+  unfolding low_first high_first
+  u32_high_first_words a b c d octet octet' n s p = n (omega arith)
+
+  -- the remainder by 255 as the low octet, whenever it differs
+  u16_octets_base : (n : ℕ) → (n % 255 ≡ n % 256 → ⊥) → RuledOut (u16_octets.Post κs) (n, tt) (n % 255 ∷ n / 256 % 256 ∷ [])
+  unfolding low_octets
+  u16_octets_base n differ s p = differ (ap (λ (l : List ℕ). get_or l 0 0) p)
+
+  -- the low octet twice, whenever the high octet differs
+  u16_octets_same : (n : ℕ) → (n % 256 ≡ n / 256 % 256 → ⊥) → RuledOut (u16_octets.Post κs) (n, tt) (n % 256 ∷ n % 256 ∷ [])
+  unfolding low_octets
+  u16_octets_same n differ s p = differ (ap (λ (l : List ℕ). get_or l 1 0) p)
+
+  -- the second octet again as the third, whatever the others, whenever the two differ
+  u32_octets_third : (n a b d : ℕ) → (n / 256 % 256 ≡ n / 256 / 256 % 256 → ⊥)
+      → RuledOut (u32_octets.Post κs) (n, tt) (a ∷ b ∷ n / 256 % 256 ∷ d ∷ [])
+  unfolding low_octets
+  u32_octets_third n a b d differ s p = differ (ap (λ (l : List ℕ). get_or l 2 0) p)
+
+  -- no fourth octet, whatever the others, of every number that has one
+  u32_octets_fourth : (n a b c : ℕ) → (0 ≡ n / 256 / 256 / 256 % 256 → ⊥) → RuledOut (u32_octets.Post κs) (n, tt) (a ∷ b ∷ c ∷ 0 ∷ [])
+  unfolding low_octets
+  u32_octets_fourth n a b c there s p = there (ap (λ (l : List ℕ). get_or l 3 0) p)
+
+  -- the same of the six functions
+  -- the octets swapped, whenever they differ
+  low_first_2_swapped : (a b : ℕ) → (a ≡ b → ⊥) → RuledOut (low_first_2.Post κs) (a, (b, tt)) (b + 256 * a)
+  low_first_2_swapped a b n s p = u16_low_first_swapped a b n ([], tt) p
 
   -- the second octet counted by 255, whenever it is not 0
   low_first_2_base : (a b : ℕ) → (b ≡ 0 → ⊥) → RuledOut (low_first_2.Post κs) (a, (b, tt)) (a + 255 * b)
-  unfolding low_first
-  low_first_2_base a b n s p = n (omega arith)
+  low_first_2_base a b n s p = u16_low_first_base a b n ([], tt) p
 
   -- the octets read low octet first, whenever they differ
   high_first_2_swapped : (a b : ℕ) → (a ≡ b → ⊥) → RuledOut (high_first_2.Post κs) (a, (b, tt)) (a + 256 * b)
-  unfolding low_first high_first
-  high_first_2_swapped a b n s p = n (omega arith)
+  high_first_2_swapped a b n s p = u16_high_first_swapped a b n ([], tt) p
 
   -- the second octet read twice, whenever it differs from the first
   high_first_2_same : (a b : ℕ) → (a ≡ b → ⊥) → RuledOut (high_first_2.Post κs) (a, (b, tt)) (b + 256 * b)
-  unfolding low_first high_first
-  high_first_2_same a b n s p = n (omega arith)
+  high_first_2_same a b n s p = u16_high_first_same a b n ([], tt) p
 
   -- the halves swapped, whenever they differ
   low_first_4_halves : (a b c d : ℕ) → (a + 256 * b ≡ c + 256 * d → ⊥)
       → RuledOut (low_first_4.Post κs) (a, (b, (c, (d, tt)))) (c + 256 * d + 65536 * (a + 256 * b))
-  unfolding low_first
-  low_first_4_halves a b c d n s p = n (omega arith)
+  low_first_4_halves a b c d n s p = u32_low_first_halves a b c d n ([], tt) p
 
   -- the upper half counted by 65,535, whenever it is not 0
   low_first_4_base : (a b c d : ℕ) → (c + 256 * d ≡ 0 → ⊥)
       → RuledOut (low_first_4.Post κs) (a, (b, (c, (d, tt)))) (a + 256 * b + 65535 * (c + 256 * d))
-  unfolding low_first
-  low_first_4_base a b c d n s p = n (omega arith)
+  low_first_4_base a b c d n s p = u32_low_first_base a b c d n ([], tt) p
 
   -- the octets read low octet first, whenever the outer two differ
   high_first_4_low : (a b c d : ℕ) → b < 256 → c < 256 → (a ≡ d → ⊥)
       → RuledOut (high_first_4.Post κs) (a, (b, (c, (d, tt)))) (a + 256 * (b + 256 * (c + 256 * d)))
-  unfolding low_first high_first
-  high_first_4_low a b c d octet octet' n s p = n (omega arith)
+  high_first_4_low a b c d octet octet' n s p = u32_high_first_low a b c d octet octet' n ([], tt) p
 
   -- the octets of each half swapped, whenever the first two differ
   high_first_4_words : (a b c d : ℕ) → c < 256 → d < 256 → (a ≡ b → ⊥)
       → RuledOut (high_first_4.Post κs) (a, (b, (c, (d, tt)))) (c + 256 * (d + 256 * (a + 256 * b)))
-  unfolding low_first high_first
-  high_first_4_words a b c d octet octet' n s p = n (omega arith)
+  high_first_4_words a b c d octet octet' n s p = u32_high_first_words a b c d octet octet' n ([], tt) p
 
   -- the remainder by 255 as the low octet, whenever it differs
   low_octets_2_base : (n : ℕ) → (n % 255 ≡ n % 256 → ⊥) → RuledOut (low_octets_2.Post κs) (n, tt) (n % 255 ∷ n / 256 % 256 ∷ [])
-  unfolding low_octets
-  low_octets_2_base n differ s p = differ (ap (λ (l : List ℕ). get_or l 0 0) p)
+  low_octets_2_base n differ s p = u16_octets_base n differ s p
 
   -- the low octet twice, whenever the high octet differs
   low_octets_2_same : (n : ℕ) → (n % 256 ≡ n / 256 % 256 → ⊥) → RuledOut (low_octets_2.Post κs) (n, tt) (n % 256 ∷ n % 256 ∷ [])
-  unfolding low_octets
-  low_octets_2_same n differ s p = differ (ap (λ (l : List ℕ). get_or l 1 0) p)
+  low_octets_2_same n differ s p = u16_octets_same n differ s p
 
   -- the second octet again as the third, whatever the others, whenever the two differ
   low_octets_4_third : (n a b d : ℕ) → (n / 256 % 256 ≡ n / 256 / 256 % 256 → ⊥)
       → RuledOut (low_octets_4.Post κs) (n, tt) (a ∷ b ∷ n / 256 % 256 ∷ d ∷ [])
-  unfolding low_octets
-  low_octets_4_third n a b d differ s p = differ (ap (λ (l : List ℕ). get_or l 2 0) p)
+  low_octets_4_third n a b d differ s p = u32_octets_third n a b d differ s p
 
   -- no fourth octet, whatever the others, of every number that has one
   low_octets_4_fourth : (n a b c : ℕ) → (0 ≡ n / 256 / 256 / 256 % 256 → ⊥) → RuledOut (low_octets_4.Post κs) (n, tt) (a ∷ b ∷ c ∷ 0 ∷ [])
-  unfolding low_octets
-  low_octets_4_fourth n a b c there s p = there (ap (λ (l : List ℕ). get_or l 3 0) p)
+  low_octets_4_fourth n a b c there s p = u32_octets_fourth n a b c there s p
 
   -- the lowest value taken for a positive one
   signed_border : RuledOut (signed.Post κs) (0x80000000, tt) (pos 0x80000000)
@@ -173,7 +234,10 @@ module _ (x y z : Place) where
   unfolding over fits_at
   put_place κs a b c n s e p = n (cc)
 
--- octets that are kept
+-- octets that are kept, lent or not
+abbrev lent_kept : Place → Kept → Bor Kept
+lent_kept x k = record { ref_ptr = x.0; now = k }
+
 abbrev kept : List ℕ → ℕ → Kept
 kept octets length = record { octets = octets; length = length }
 
@@ -187,6 +251,17 @@ module _ (κs : Lfts 0) where
   kept_new_ones : RuledOut (kept_new.Post κs) tt (kept (replicate 252 1) 0)
   unfolding kept_of over
   kept_new_ones s p = omega (arith, ap (λ (m : Kept). get_or m.octets 0 0) p)
+
+module _ (κs : Lfts 1) (x z : Place) (a b c : ℕ) where
+  -- an octet behind those that count handed out
+  kept_as_slice_all : RuledOut (kept_as_slice.Post κs) (lent_kept x (kept (a ∷ b ∷ c ∷ []) 2), tt) (lent z (a ∷ b ∷ c ∷ []))
+  unfolding octets_of
+  kept_as_slice_all s p = never (cc)
+
+  -- the octets from the second on, whenever the first two differ
+  kept_as_slice_second : (a ≡ b → ⊥) → RuledOut (kept_as_slice.Post κs) (lent_kept x (kept (a ∷ b ∷ c ∷ []) 1), tt) (lent z (b ∷ []))
+  unfolding octets_of
+  kept_as_slice_second n s p = n (cc)
 
 module _ (κs : Lfts 1) (x : Place) (octets : List ℕ) where
   -- a 253rd octet put behind 252, whatever octets these are

@@ -6,8 +6,8 @@ use Rattle.card.specs.Examining.{is_link}
 use Rattle.card.proofs.is_link.Goals as goal
 use Rattle.fields.specs.declared.Identity.{Identity}
 
-pub returns-in-Is : goal.returns-in-Is
-returns-in-Is c = c.is.ensures ∙ ap (λ (found : Option Identity). is_link found c.args.link) (sym c.in-Is.is ∙ c.identity_of.ensures)
+pub returns-in-Some : goal.returns-in-Some
+returns-in-Some c = c.eq.ensures ∙ ap (λ (found : Option Identity). is_link found c.args.link) (sym c.in-Some.is ∙ c.identity_of.ensures)
 
-pub returns-in-Nothing : goal.returns-in-Nothing
-returns-in-Nothing c = ap (λ (found : Option Identity). is_link found c.args.link) (sym c.in-Nothing.is ∙ c.identity_of.ensures)
+pub returns-in-None : goal.returns-in-None
+returns-in-None c = ap (λ (found : Option Identity). is_link found c.args.link) (sym c.in-None.is ∙ c.identity_of.ensures)

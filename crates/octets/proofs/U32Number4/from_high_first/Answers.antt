@@ -1,0 +1,8 @@
+-- `from_high_first` answers the number of its octets.
+-- Std's reading of them is the definition's. Assumes nothing.
+use Rattle.std.proofs.Common.{◌∙◌, rules}
+use Rattle.octets.proofs.Bytes.{from_high}
+use Rattle.octets.proofs.U32Number4.from_high_first.Goals as goal
+
+pub returns : goal.returns
+returns c = c.from_be_bytes.ensures ∙ from_high c.args.octets 3 (search rules)
