@@ -1,29 +1,20 @@
 -- The walk over records, step by step: what a whole record is, the record that stands at a place, and the records from there on.
 -- By recursion on the number that bounds the walk; as many turns as there are octets are enough. Assumes nothing.
-use Prim.Native.Nat.{ℕ, zero, suc, ◌+◌, ◌-◌, ◌≤◌, ◌<◌}
-use mathlib.Core.Bool.{Bool, true, false, and-true}
+use Prim.Native.Nat.{ℕ, zero, suc, ◌+◌, ◌≤◌, ◌<◌}
+use mathlib.Core.Bool.{Bool, true, false}
 use mathlib.Core.List.{List, [], ◌∷◌, ◌++◌}
 use mathlib.Core.Path.{◌≡◌, refl, ap, sym, ◌∙◌}
-use native.Mathlib.Nat.{add_assoc}
 use native.Mathlib.Numerals.{add-one}
 use native.Mathlib.Omega.{arith}
 use borrow.Author.Tests.{ltb-true, leb-true, leb-false, eqb-true, lt-ltb, le-leb, eq-eqb, ne_eqb}
 use lib.Dec.{leb}
 use lib.ListN.{length, get_or, take, drop, length-append, length-drop, get_or-append}
 use lib.Seq.{drop-drop, get_or-drop, get_or-take, length-take-le, take-take, take-append-le}
-use Rattle.octets.specs.Conditions.{holds}
 use Rattle.octets.specs.Numbers.{high_first}
-use Rattle.octets.proofs.Choice.{same_test}
+use Rattle.octets.proofs.Choice.{refuted}
 use Rattle.octets.proofs.Conditions.{holds_at, holds_more, holds_none}
 use Rattle.octets.proofs.Lists.{part_at}
 use Rattle.records.specs.Records.{length_of, kind_of, size_of, is_whole, walk, records, whole_at, record_at, records_from, kind_at, place_after}
-
--- room from a place on
-shifted : (at size n : ℕ) → at ≤ n → leb (at + size) n ≡ leb size (n - at)
-shifted at size n h =
-    same_test (leb (at + size) n) (leb size (n - at))
-    (λ e. le-leb size (n - at) (omega (arith, leb-true (at + size) n e)))
-    (λ e. le-leb (at + size) n (omega (arith, leb-true size (n - at) e)))
 
 -- what a whole record is
 pub record Whole (s : List ℕ) : Type 0 where
@@ -177,15 +168,32 @@ stands_facts s at e =
       size = length-take-le _ (drop at s) w.fits ∙ rw kind;
     }
 
--- where all but the room is there, the room decides
-pub stands_but_room : (s : List ℕ) (at : ℕ) → at + 3 ≤ length s → 0 < length_of (get_or s (at + 2) 0)
-    → high_first (get_or s at 0 ∷ get_or s (at + 1) 0 ∷ []) ≡ length_of (get_or s (at + 2) 0)
-    → leb (at + 2 + length_of (get_or s (at + 2) 0)) (length s) ≡ whole_at s at
-unfolding whole_at is_whole holds
-stands_but_room s at h some said =
-    let size = length_of (get_or s (at + 2) 0) in
-    rw (get_or-drop at s 2 0, first_two s at (omega arith), said, length-drop at s, lt-ltb 0 size some, eq-eqb size size refl, and-true)
-    (ap (λ (n : ℕ). leb n (length s)) (add_assoc at 2 size) ∙ shifted at (2 + size) (length s) (omega arith))
+-- how the octets from a place on decide whether a whole record stands there: by their number, their kind's length, the length that they say
+module _ (s : List ℕ) (at : ℕ) (rest : List ℕ) (e : rest ≡ drop at s) where
+  refused : (Whole rest → ⊥) → whole_at s at ≡ false
+  unfolding whole_at
+  refused n = rw (← e) (sym (refuted _ (λ t. n (whole_facts rest t))))
+
+  pub too_few : length rest < 3 → whole_at s at ≡ false
+  too_few h = refused (λ w. omega arith)
+
+  pub no_kind : length_of (get_or rest 2 0) ≡ 0 → whole_at s at ≡ false
+  no_kind none = refused (λ w. omega arith)
+
+  module _ (long : 3 ≤ length rest) where
+    two : take 2 rest ≡ get_or rest 0 0 ∷ get_or rest 1 0 ∷ []
+    two = part_at 2 rest 0 (omega arith)
+
+    pub other_length : (high_first (get_or rest 0 0 ∷ get_or rest 1 0 ∷ []) ≡ length_of (get_or rest 2 0) → ⊥) → whole_at s at ≡ false
+    other_length n = refused (λ w. n (rw two at w.said))
+
+    pub cut_short : length rest < 2 + length_of (get_or rest 2 0) → whole_at s at ≡ false
+    cut_short h = refused (λ w. omega arith)
+
+    pub all_there : 0 < length_of (get_or rest 2 0) → high_first (get_or rest 0 0 ∷ get_or rest 1 0 ∷ []) ≡ length_of (get_or rest 2 0)
+        → 2 + length_of (get_or rest 2 0) ≤ length rest → (whole_at s at ≡ true) × (take (2 + length_of (get_or rest 2 0)) rest ≡ record_at s at)
+    unfolding whole_at record_at
+    all_there some said fits = rw (← e) (whole_from rest (record { some = some; said = rw two said; fits = fits }), refl)
 
 -- from a place on
 module _ (s : List ℕ) (at : ℕ) where

@@ -1,21 +1,14 @@
 -- `records::kind_at` answers the kind of the whole record at a place, or 0.
 -- By the two cases of wholeness. Assumes nothing.
-use mathlib.Core.Path.{sym}
-use native.Mathlib.Omega.{arith}
-use Rattle.octets.proofs.Choice.{told}
-use Rattle.records.proofs.Records.{stands_facts, kind_whole, kind_none}
+use Rattle.std.proofs.Common.{sym, arith, ◌∙◌}
+use Rattle.records.proofs.Records.{stands_facts, kind_there, kind_whole, kind_none}
 use Rattle.records.proofs.kind_at.Goals as goal
 
-pub overflow_add-result : goal.overflow_add-result
-overflow_add-result c = let h = stands_facts _ _ (told c.is_whole.ensures c.if-is_whole.true) in omega arith
+pub bounds-whole-2 : goal.bounds-whole-2
+bounds-whole-2 c = let w = c.in-Some.ensures in rw w.1 (let h = stands_facts _ _ w.0 in omega arith)
 
-pub bounds-s-at : goal.bounds-s-at
-bounds-s-at c = let h = stands_facts _ _ (told c.is_whole.ensures c.if-is_whole.true) in omega arith
+pub returns-in-Some : goal.returns-in-Some
+returns-in-Some c = let w = c.in-Some.ensures in rw w.1 (kind_there _ _ w.0 ∙ sym (kind_whole _ _ w.0))
 
-pub returns-then-is_whole : goal.returns-then-is_whole
-returns-then-is_whole c =
-    let e = told c.is_whole.ensures c.if-is_whole.true in
-    sym (kind_whole _ _ e)
-
-pub returns : goal.returns
-returns c = sym (kind_none _ _ (told c.is_whole.ensures c.if-is_whole.false))
+pub returns-in-None : goal.returns-in-None
+returns-in-None c = sym (kind_none _ _ c.in-None.ensures)
