@@ -1,6 +1,6 @@
 -- The rules of an image as they are worked out, over keys and over the points behind the first record, in one walk over the records.
 -- Nothing here has to be believed: that these are the rules of `Image` is proved. Assumes nothing.
-use Rattle.std.specs.Prelude.{ℕ, ◌+◌, ◌-◌, ◌≤◌, ◌<◌, Bool, true, false, not, ◌&&◌, ◌≡◌, ltb, leb, eqb, ℤ, length, Option, Some, None}
+use Rattle.std.specs.Prelude.{ℕ, ◌+◌, ◌-◌, ◌≤◌, ◌<◌, Bool, true, false, not, ◌&&◌, ◌≡◌, ltb, leb, eqb, ℤ, length, Option, Some, None, is_some}
 use mathlib.Core.List.{List, [], ◌∷◌, flatten}
 use Rattle.octets.specs.Choice.{when◌then◌else◌}
 use Rattle.label.specs.Label.{valid_a, valid_b, instant, before_b}
@@ -12,7 +12,6 @@ use Rattle.fields.specs.working.Key.{at_minute, key_of}
 use Rattle.fields.specs.Answers.{records_of, points_of, point_in}
 use Rattle.image.specs.declared.Run.{Run}
 use Rattle.image.specs.Image.{reading_record, event_record, right, in_order}
-use Rattle.fields.specs.declared.Point.{Point}
 use Rattle.fields.specs.declared.Dates.{Dates}
 
 unfoldable pub valid_dates : Option Dates → Bool
@@ -38,12 +37,8 @@ keys_in_order k l =
     false
 
 -- whether the point of a reading or an event is among some points
-abbrev pub is_found : Option Point → Bool
-is_found (Some p) = true
-is_found None = false
-
 unfoldable pub known_in : List (List ℕ) → List ℕ → Bool
-known_in points r = when leb 4 (kind_of r) then is_found (point_in (point_of r) 1 points) else true
+known_in points r = when leb 4 (kind_of r) then is_some (point_in (point_of r) 1 points) else true
 
 -- each record right, neighbours in order, the points that are named known, and records to the exact end
 unfoldable pub orderly : List ℕ → Bool
@@ -73,7 +68,7 @@ key_right k =
     event_record k.record_address && valid_b k.label
 
 unfoldable pub key_known : List (List ℕ) → Key → Bool
-key_known points k = when leb 4 k.kind then is_found (point_in k.point.0 1 points) else true
+key_known points k = when leb 4 k.kind then is_some (point_in k.point.0 1 points) else true
 
 unfoldable pub key_fits : List (List ℕ) → Key → Key → Bool
 key_fits points k l = key_right l && (keys_in_order k l && key_known points l)
