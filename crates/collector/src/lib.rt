@@ -10,7 +10,7 @@ use frame::{Fault, Judged};
 use profile::Character;
 
 // The octets since the last gap: the first so many of the array, zeros behind. The mark says that a parity bit was wrong; it stands where the array leaves
-// one octet before the length, so that it costs no room. A length over 261 means overfull.
+// one octet before the length, so that it costs no room. A length over 261 means overfull. C lends one to `collect`, so that it is an array with a length.
 #[repr(C)]
 #[derive(Clone, Copy)]
 pub struct Collector {

@@ -41,7 +41,7 @@ pub struct LabelA {
     pub year: u8,
 }
 
-// Label b: two octets of milliseconds and seconds, low octet first, and a label a.
+// Label b: two octets of milliseconds and seconds, low octet first, and a label a. The two are no twins: b asks its a, and adds to what that answers.
 #[derive(Clone, Copy, Debug, PartialEq, Eq)]
 pub struct LabelB {
     pub low: u8,
