@@ -3,10 +3,10 @@
 use Rattle.std.proofs.Common.{arith}
 use Rattle.label.specs.Calendar.{leap}
 use Rattle.label.proofs.Calendar.{before_at_most, years_rule}
-use Rattle.label.proofs.days_before.Goals as goal
+use Rattle.label.proofs.month.Month.days_before.Goals as goal
 
 pub overflow_add-result-3 : goal.overflow_add-result-3
-overflow_add-result-3 c = omega (arith, before_at_most (leap c.args.year) c.args.month (omega arith))
+overflow_add-result-3 c = omega (arith, before_at_most (leap c.args.self.year) c.args.self.number (omega arith))
 
 pub returns : goal.returns
-returns c = omega (arith, years_rule c.args.year (omega arith))
+returns c = omega (arith, years_rule c.args.self.year (omega arith))
