@@ -6,13 +6,15 @@ use mathlib.Core.List.{List}
 use mathlib.Core.Path.{◌≡◌, refl, ap, sym, ◌∙◌}
 use native.Mathlib.Nat.{pow-le-pow_right}
 use native.Mathlib.Omega.{arith}
-use borrow.Author.Tests.{eqb-true, eq-eqb, ne_eqb}
-use lib.Dec.{eqb}
-use lib.ListN.{length, take, drop, length-take}
+use borrow.Author.Tests.{ltb-true, ltb-false, eqb-true, eq-eqb, ne_eqb}
+use lib.Dec.{ltb, eqb}
+use lib.ListN.{length, take, drop, length-take, length-drop}
+use lib.Seq.{get_or-take, take-take, length-take-le}
+use Rattle.octets.specs.Numbers.{high_first}
 use Rattle.octets.specs.Choice.{when◌then◌else◌}
 use Rattle.octets.proofs.Numbers.{Octets, octets_take, octets_drop, high_bound}
 use Rattle.records.specs.Records.{length_of, kind_of, whole_at, record_at, kind_at}
-use Rattle.records.proofs.Records.{itself, kind_there, kind_none, kind_whole, kind_facts}
+use Rattle.records.proofs.Records.{whole_facts, whole_from, whole_itself, itself, kind_there, kind_none, kind_whole, kind_facts}
 use Rattle.label.specs.Label.{label_a_at, label_b_at}
 use Rattle.label.proofs.Label.{label_a_cut, label_b_cut}
 use Rattle.fields.specs.Parts.{number_at, point_of, record_address, reading_label, event_label}
@@ -106,10 +108,46 @@ module _ (s : List ℕ) (at : ℕ) (r : List ℕ) where
   unfolding event_label
   event_there t = let k = key_there 5 (omega arith) t in rw (label_b_cut r 8) (k.0 ∙ key_5 r k.1)
 
--- a part as long as a record of the kind that stands there is that record
-pub stands_there : (s : List ℕ) (at kind : ℕ) → kind_at s at ≡ kind → 0 < kind → StandsThere kind s at (take (2 + length_of kind) (drop at s))
-stands_there s at kind k h =
-    let o = kind_facts s at kind k h in
-    let same : take (2 + length_of kind) (drop at s) ≡ record_at s at =
-    ap (λ (n : ℕ). take n (drop at s)) (sym o.size_there) ∙ itself s at o.whole_there in
-    record { is_kind = k; is_record = same; size = ap length same ∙ o.size_there }
+-- a part as long as a record of a kind is one that stands there where its kind and its length are right, and only then
+module _ (s : List ℕ) (at kind : ℕ) (some : 0 < length_of kind) where
+  some_kind : 0 < kind
+  unfolding length_of
+  some_kind = by_test (ltb 0 kind) refl
+    where
+      by_test : (t : Bool) → ltb 0 kind ≡ t → 0 < kind
+      by_test true e = ltb-true 0 kind e
+      by_test false e = let none : kind ≡ 0 = omega (arith, ltb-false 0 kind e) in absurd (omega (arith, rw none at some))
+
+  pub no_room : length (drop at s) < 2 + length_of kind → kind_at s at ≡ kind → ⊥
+  no_room h k = omega (arith, (kind_facts s at kind k some_kind).room_there, length-drop at s)
+
+  module _ (r : List ℕ) (e : r ≡ take (2 + length_of kind) (drop at s)) where
+    -- the record that stands there
+    there : kind_at s at ≡ kind → StandsThere kind s at r
+    there k =
+        let o = kind_facts s at kind k some_kind in
+        let same : take (2 + length_of kind) (drop at s) ≡ record_at s at =
+        ap (λ (n : ℕ). take n (drop at s)) (sym o.size_there) ∙ itself s at o.whole_there in
+        record { is_kind = k; is_record = e ∙ same; size = ap length (e ∙ same) ∙ o.size_there }
+
+    pub right_there : kind_at s at ≡ kind → (kind_of r ≡ kind) × (number_at 2 r 0 ≡ length_of kind)
+    unfolding number_at
+    right_there k =
+        let o = kind_facts s at kind k some_kind in
+        let t = there k in
+        let of_kind : kind_of r ≡ kind = ap kind_of t.is_record ∙ o.of_kind in
+        (of_kind, rw t.is_record ((whole_facts _ (whole_itself s at o.whole_there)).said ∙ ap length_of o.of_kind))
+
+    pub stands_there : 2 + length_of kind ≤ length (drop at s) → kind_of r ≡ kind → number_at 2 r 0 ≡ length_of kind → StandsThere kind s at r
+    unfolding number_at whole_at record_at
+    stands_there room k n =
+        let d = drop at s in
+        let kind_d : kind_of d ≡ kind = sym (get_or-take (2 + length_of kind) d 2 0 (omega arith)) ∙ (rw e at k) in
+        let two : take 2 r ≡ take 2 d = ap (take 2) e ∙ take-take 2 (2 + length_of kind) d (omega arith) in
+        let w : whole_at s at ≡ true = whole_from d (record { some = rw kind_d some; said = rw kind_d (ap high_first (sym two) ∙ n); fits = rw kind_d room }) in
+        let same : r ≡ record_at s at = e ∙ (rw kind_d) in
+        record {
+          is_kind = kind_whole s at w ∙ sym (kind_there s at w) ∙ ap kind_of (sym same) ∙ k;
+          is_record = same;
+          size = ap length e ∙ length-take-le (2 + length_of kind) d room;
+        }

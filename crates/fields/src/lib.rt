@@ -2,7 +2,7 @@
 // The single parts of an image and of its records. Every call serves any octets and any place.
 ghost use Rattle.std.specs.Prelude.{◌≡◌, ◌≢◌, ◌+◌, ◌≤◌, ◌<◌, length, MatchOption};
 ghost use Rattle.std.specs.Iterator.{YieldsFirst, item_count};
-ghost use Rattle.records.specs.Records.{kind_at, place_after};
+ghost use Rattle.records.specs.Records.{length_of, kind_at, place_after};
 ghost use Rattle.fields.specs.Parts.{number_at, point_of, record_address};
 ghost use Rattle.fields.specs.working.Key.{at_minute, no_label, key, key_at, key_as};
 ghost use Rattle.fields.specs.Answers.{identity_found, points_from, points_of, point_found, dates_at, dates_found};
@@ -71,13 +71,16 @@ fn number_at<T: Number<N>, const N: usize>(r: &[u8], at: usize) -> T
     T::from_high_first(*octets)
 }
 
-// The octets of the record of a kind at a place.
+// The octets of the record of a kind at a place. Asks for that kind alone, which is quicker than to ask which kind stands there.
 fn of_kind(s: &[u8], at: usize, kind: u8) -> Option<&[u8]>
-    requires { 0 < kind }
+    requires { 0 < length_of kind }
     ensures { MatchOption result (kind_at s.now at ≢ kind) (λ r. StandsThere kind s.now at r.now) }
 {
-    if records::kind_at(s, at) == kind {
-        Some(&s[at..at + 2 + records::length_of(kind) as usize])
+    let length = records::length_of(kind);
+    let r = s.get(at..)?.get(..2 + length as usize)?;
+    let said: u16 = number_at(r, 0);
+    if r[2] == kind && said == length {
+        Some(r)
     } else {
         None
     }

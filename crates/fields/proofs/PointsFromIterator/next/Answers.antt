@@ -30,3 +30,7 @@ returns-clause-goes c =
     let s = c.args.self.now in
     let later : length (entries_from s.image.now (s.at + 9)) < length (entries_from s.image.now s.at) = rw (next_entry _ _ _ c.in_ok-r.ensures) (omega arith) in
     grind (arith, later)
+
+pub of_kind-requires : goal.of_kind-requires
+unfolding length_of
+of_kind-requires c = omega arith
