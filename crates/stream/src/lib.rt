@@ -134,6 +134,12 @@ pub fn say<W: Write + Drop>(mut to: W, text: &[u8]) -> bool
 }
 
 impl Texts {
+    // Nothing waits yet, and all could be written.
+    pub const NONE: Texts = Texts {
+        count: 0,
+        going: true,
+    };
+
     // What waits is written, and nothing waits. Whether it could be written is the world's answer; once something could not, nothing goes on.
     pub fn out(self, output: Stdout, block: &[u8]) -> Texts
         ensures { Out self result }
