@@ -2,7 +2,7 @@
 use crate::entries::{Entry, Fault};
 use crate::words::Complaint;
 use crate::{entries, lines};
-use names::{Checked, Code};
+use names::Code;
 
 // Where each code's name begins in the text; 0 where no line has one. No name begins at 0: its code stands before it. An Option for each would
 // take twice the room, and with the text and the book the stack has no more.
@@ -84,8 +84,6 @@ pub(crate) fn book_from<'a>(
     keep_lines(text, places)?;
     let many = make(text, places, space);
     let book = octets::part(space, 0, many);
-    match names::check(book) {
-        Checked::Sound => Ok(book),
-        Checked::Refused(refusal, entry) => Err(Complaint::Entry(entry, refusal)),
-    }
+    names::check(book).map_err(Complaint::Entry)?;
+    Ok(book)
 }

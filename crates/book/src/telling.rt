@@ -3,7 +3,7 @@ ghost use Rattle.std.specs.Prelude.{length};
 ghost use Rattle.std.specs.Iterator.{at_most};
 
 use crate::words::Complaint;
-use names::{Checked, Code};
+use names::Code;
 use std::io;
 use std::io::{Stdout, Write};
 
@@ -46,11 +46,7 @@ fn tell_entries(output: Stdout, entries: &[u8]) -> io::Result<()> {
 }
 
 pub(crate) fn text_from(output: Stdout, book: &[u8]) -> Result<(), Complaint> {
-    match names::check(book) {
-        Checked::Sound => {
-            let _ = tell_entries(output, octets::part(book, 1, book.len()));
-            Ok(())
-        }
-        Checked::Refused(refusal, entry) => Err(Complaint::Entry(entry, refusal)),
-    }
+    names::check(book).map_err(Complaint::Entry)?;
+    let _ = tell_entries(output, octets::part(book, 1, book.len()));
+    Ok(())
 }

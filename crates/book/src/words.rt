@@ -1,13 +1,14 @@
 // Every word of the program: of what is refused, without the end of the line.
 use crate::entries::Fault;
+use names::BookFault;
 use std::fmt;
 
-// Why an input is refused: a text is too long, a line is at fault, by its number; or an entry of a book is, with the check's refusal.
+// Why an input is refused: a text is too long, a line is at fault, by its number; or a book is.
 #[derive(Clone, Copy)]
 pub enum Complaint {
     TextTooLong,
     Line(usize, Fault),
-    Entry(usize, u8),
+    Entry(BookFault),
 }
 
 impl fmt::Display for Fault {
@@ -32,13 +33,13 @@ impl fmt::Display for Fault {
     }
 }
 
-// What is wrong with an entry, by the check's refusal.
-fn refusal(number: u8) -> &'static str {
-    match number {
-        2 => "the book ends before the entry does",
-        3 => "the name's length is 0 or over 40",
-        4 => "SPA and SPQ have to be higher than those of the entry before",
-        _ => "this is no book of version 1",
+// What is wrong with a book or an entry of it.
+fn refusal(fault: names::Fault) -> &'static str {
+    match fault {
+        names::Fault::Version => "this is no book of version 1",
+        names::Fault::Cut => "the book ends before the entry does",
+        names::Fault::Name => "the name's length is 0 or over 40",
+        names::Fault::Order => "SPA and SPQ have to be higher than those of the entry before",
     }
 }
 
@@ -47,8 +48,9 @@ impl fmt::Display for Complaint {
         match *self {
             Complaint::TextTooLong => f.write_str("text too long"),
             Complaint::Line(number, fault) => write!(f, "line {number}: {fault}"),
-            Complaint::Entry(entry, number) => {
-                let refusal = refusal(number);
+            Complaint::Entry(why) => {
+                let entry = why.entry;
+                let refusal = refusal(why.fault);
                 write!(f, "entry {entry}: {refusal}")
             }
         }

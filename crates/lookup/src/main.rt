@@ -2,7 +2,7 @@
 
 // The look-up program: calls of the library of names from standard input, a line for each. second/README.md, "The look-up face". It only reads
 // (`stream`), calls (`names`) and writes (`stream`), and decides nothing.
-use names::{Checked, Code, Shown};
+use names::{Code, Found, Refusal, Which};
 use std::fmt;
 use std::fmt::InlineText;
 use stream::{Input, Output, Texts, Window};
@@ -119,15 +119,12 @@ fn call_in(read: &[u8]) -> Result<Call<'_>, Stop> {
 // No line is longer: three numbers, and a name of 40 octets in hex.
 type Line = InlineText<252>;
 
-// Octets in hex, and a dash where there are none.
+// Octets in hex.
 #[derive(Clone, Copy)]
 struct Pairs<'a>(&'a [u8]);
 
 impl fmt::Display for Pairs<'_> {
     fn fmt<W: fmt::Write>(&self, f: &mut fmt::Formatter<W>) -> fmt::Result {
-        if self.0.is_empty() {
-            return f.write_str("-");
-        }
         for octet in self.0 {
             write!(f, "{octet:02X}")?;
         }
@@ -137,22 +134,39 @@ impl fmt::Display for Pairs<'_> {
 
 fn check_line(book: &[u8]) -> Line {
     let (number, entry) = match names::check(book) {
-        Checked::Sound => (0, 0),
-        Checked::Refused(number, entry) => (number, entry),
+        Ok(()) => (0, 0),
+        Err(why) => (why.fault.number(), why.entry),
     };
     Line::of(format_args!("{number} {entry}\n"))
 }
 
+fn book_number(book: Which) -> u8 {
+    match book {
+        Which::Chosen => 1,
+        Which::Italian => 2,
+    }
+}
+
+fn found_line(found: Found, name: &[u8]) -> Line {
+    let book = book_number(found.book);
+    let entry = found.entry;
+    let name = Pairs(name);
+    Line::of(format_args!("0 {book} {entry} {name}\n"))
+}
+
+fn refusal_line(refusal: Refusal) -> Line {
+    let number = refusal.why.fault.number();
+    let book = book_number(refusal.book);
+    let entry = refusal.why.entry;
+    Line::of(format_args!("{number} {book} {entry} -\n"))
+}
+
 fn name_line(chosen: &[u8], italian: &[u8], code: Code) -> Line {
-    let looked_up = names::look_up(chosen, italian, code);
-    let name = Pairs(names::name_at(chosen, italian, looked_up));
-    let (number, book, entry) = match looked_up.shown {
-        Shown::Refused(book, number, entry) => (number, book, entry),
-        Shown::Chosen(entry) => (0, 1, entry),
-        Shown::Italian(entry) => (0, 2, entry),
-        Shown::Nothing => (0, 0, 0),
-    };
-    Line::of(format_args!("{number} {book} {entry} {name}\n"))
+    match names::look_up(chosen, italian, code) {
+        Ok(Some(found)) => found_line(found, names::name_at(chosen, italian, found)),
+        Ok(None) => Line::of("0 0 0 -\n"),
+        Err(refusal) => refusal_line(refusal),
+    }
 }
 
 // ---- what is done ----
