@@ -17,7 +17,7 @@ fn turn_over(
     places: &mut Places,
     book: &mut [u8],
 ) -> Result<(), Complaint> {
-    if octets::octet_at(input, 0) == 1 {
+    if matches!(input, [1, ..]) {
         telling::text_from(output, input)
     } else {
         stream::say(output, making::book_from(input, places, book)?);

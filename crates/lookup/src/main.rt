@@ -2,7 +2,7 @@
 
 // The look-up program: calls of the library of names from standard input, a line for each. second/README.md, "The look-up face". It only reads
 // (`stream`), calls (`names`) and writes (`stream`), and decides nothing.
-use names::{Code, Found, Refusal, Which};
+use names::{Code, Found, Refusal};
 use std::fmt;
 use std::fmt::InlineText;
 use stream::{Input, Output, Texts, Window};
@@ -140,15 +140,8 @@ fn check_line(book: &[u8]) -> Line {
     Line::of(format_args!("{number} {entry}\n"))
 }
 
-fn book_number(book: Which) -> u8 {
-    match book {
-        Which::Chosen => 1,
-        Which::Italian => 2,
-    }
-}
-
 fn found_line(found: Found, name: &[u8]) -> Line {
-    let book = book_number(found.book);
+    let book = found.book as u8;
     let entry = found.entry;
     let name = Pairs(name);
     Line::of(format_args!("0 {book} {entry} {name}\n"))
@@ -156,7 +149,7 @@ fn found_line(found: Found, name: &[u8]) -> Line {
 
 fn refusal_line(refusal: Refusal) -> Line {
     let number = refusal.why.fault.number();
-    let book = book_number(refusal.book);
+    let book = refusal.book as u8;
     let entry = refusal.why.entry;
     Line::of(format_args!("{number} {book} {entry} -\n"))
 }

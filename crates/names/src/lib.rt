@@ -14,13 +14,13 @@ pub struct Code {
 }
 
 // What is wrong with a book: it is empty or of another version; or what is wrong with an entry: it is cut, its name is empty or too long, its
-// code does not rise.
+// code does not rise. The numbers are the refusals'.
 #[derive(Clone, Copy, PartialEq, Eq)]
 pub enum Fault {
-    Version,
-    Cut,
-    Name,
-    Order,
+    Version = 1,
+    Cut = 2,
+    Name = 3,
+    Order = 4,
 }
 
 // Why a book is refused: the fault, and the first faulty entry's number, from 1; entry 0 where the version is at fault.
@@ -30,11 +30,11 @@ pub struct BookFault {
     pub entry: usize,
 }
 
-// Which of the two books.
+// Which of the two books, by the papers' numbers.
 #[derive(Clone, Copy, PartialEq, Eq)]
 pub enum Which {
-    Chosen,
-    Italian,
+    Chosen = 1,
+    Italian = 2,
 }
 
 // Why a look-up is refused: the book, and what is wrong with it.
@@ -69,12 +69,7 @@ impl Fault {
     pub fn number(self) -> u8
         ensures { result ≡ number_of self }
     {
-        match self {
-            Fault::Version => 1,
-            Fault::Cut => 2,
-            Fault::Name => 3,
-            Fault::Order => 4,
-        }
+        self as u8
     }
 }
 
