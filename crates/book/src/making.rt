@@ -27,9 +27,8 @@ fn keep(text: &[u8], from: usize, entry: Entry, places: &mut Places) -> Result<(
 // The names of all lines are kept. What is wrong with a line is said at once: no line behind it is looked at.
 fn keep_lines(text: &[u8], places: &mut Places) -> Result<(), Complaint> {
     let mut from = 0usize;
-    let mut number = 0usize;
-    for line in text.split(|c| *c == b'\n') {
-        number = number.saturating_add(1);
+    for (before, line) in text.split(|c| *c == b'\n').enumerate() {
+        let number = before.saturating_add(1);
         let in_line = |fault| Complaint::Line(number, fault);
         if let Some(entry) = entries::judge(lines::without_return(line)).map_err(in_line)? {
             keep(text, from, entry, places).map_err(in_line)?;
