@@ -55,7 +55,8 @@ impl Bench {
             Word::State => self.show(voice, false),
             Word::Octets => self.collect_octets(voice, octets),
             Word::Characters => self.collect_characters(voice, octets),
-            Word::Gap | Word::Run => self.run(voice, octets, None),
+            Word::Gap => self.gap(voice, None),
+            Word::Run => self.run(voice, octets),
             Word::Ask => self.ask(voice, octets),
             Word::Collect => self.collect(voice),
             Word::Why => {
@@ -108,24 +109,29 @@ impl Bench {
 
     // The card as if a session had just been opened or closed, and the ACK had been sent for it.
     fn set_session(&mut self, voice: Voice, point: Option<u16>) {
+        let session = match point {
+            Some(point) => Session::Open(PointAddress(point)),
+            None => Session::Closed,
+        };
         self.card.link = Link {
             reset: true,
-            fcb: self.card.link.fcb,
-            session: match point {
-                Some(point) => Session::Open(PointAddress(point)),
-                None => Session::Closed,
-            },
+            session,
             remembered: cards::acknowledged(self.image.octets()),
             pending: Pending::new(),
+            ..self.card.link
         };
         self.show(voice, false);
     }
 
     // ---- what the card is given ----
 
+    fn give(&mut self, octets: &[u8]) {
+        self.card = self.card.octets(octets);
+    }
+
     fn collect_octets(&mut self, voice: Voice, octets: &[u8]) {
         words::octets_in(voice, octets.len());
-        self.card = self.card.octets(octets);
+        self.give(octets);
     }
 
     // Every octet has its parity bit behind it.
@@ -141,42 +147,47 @@ impl Bench {
         }
     }
 
-    // Octets and a gap. A buffer over 261 octets serves like one that has 261.
-    fn run(&mut self, voice: Voice, octets: &[u8], met: Option<Rule>) {
+    // A buffer over 261 octets serves like one that has 261.
+    fn gap(&mut self, voice: Voice, met: Option<Rule>) {
         let mut buffer = [0; 261];
         let room = usize::from(self.buffer.min(261));
-        let fed = self.card.octets(octets);
-        let gone = fed.gap(self.image.octets(), self.clock, &mut buffer[..room]);
+        let gone = self
+            .card
+            .gap(self.image.octets(), self.clock, &mut buffer[..room]);
         let sent = octets::part(&buffer, 0, usize::from(gone.length));
         cards::gap(voice, gone, met, sent, &self.books);
         self.card = gone.card;
     }
 
+    fn run(&mut self, voice: Voice, octets: &[u8]) {
+        self.give(octets);
+        self.gap(voice, None);
+    }
+
     // The rule that applies to a message, where nothing stands before its frame.
     fn met(&self, message: &[u8]) -> Option<Rule> {
-        if self.card.collector.length == 0 {
-            Some(rules::decide(
-                self.card.link.session,
-                self.image.octets(),
-                self.clock,
-                Asked::read(message),
-            ))
-        } else {
-            None
-        }
+        let session = self.card.link.session;
+        let message = Asked::read(message);
+        (self.card.collector.length == 0).then(|| rules::decide(
+            session,
+            self.image.octets(),
+            self.clock,
+            message,
+        ))
     }
 
     // A message, in a frame of user data with the FCB that is new.
     fn ask(&mut self, voice: Voice, message: &[u8]) {
-        let mut space = [0; 261];
-        let image = self.image.octets();
-        let size = cards::user_data(&mut space, self.card.link.fcb, image, message);
         let met = self.met(message);
-        self.run(voice, octets::part(&space, 0, size), met);
+        let (head, end) = cards::user_data(self.card.link.fcb, self.image.octets(), message);
+        self.give(&head);
+        self.give(message);
+        self.give(&end);
+        self.gap(voice, met);
     }
 
     fn collect(&mut self, voice: Voice) {
         let frame = cards::collection(self.card.link.fcb, self.image.octets());
-        self.run(voice, &frame, None);
+        self.run(voice, &frame);
     }
 }

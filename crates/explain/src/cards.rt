@@ -44,20 +44,13 @@ pub(crate) fn collection(last: u8, image: &[u8]) -> [u8; 6] {
     [0x10, control, low, high, octets::checksum(&body), 0x16]
 }
 
-// User data with a message, written into a space, and how many octets the frame has: none where a message has more than 252.
-pub(crate) fn user_data(space: &mut [u8; 261], last: u8, image: &[u8], message: &[u8]) -> usize {
-    let many = message.len();
-    if 252 < many {
-        return 0;
-    }
+// What stands before a message and behind it in a frame of user data. `ask` has 252 octets at most.
+pub(crate) fn user_data(last: u8, image: &[u8], message: &[u8]) -> ([u8; 7], [u8; 2]) {
     let body = addressed(Service::USER_DATA, last, image);
     let [control, low, high] = body;
-    let l = many as u8 + 3;
+    let l = message.len().min(252) as u8 + 3;
     let sum = octets::checksum(&body).wrapping_add(octets::checksum(message));
-    octets::put(space, 0, &[0x68, l, l, 0x68, control, low, high]);
-    octets::put(space, 7, message);
-    octets::put(space, 7 + many, &[sum, 0x16]);
-    many + 9
+    ([0x68, l, l, 0x68, control, low, high], [sum, 0x16])
 }
 
 fn order(voice: Voice, order: Order, time: [u8; 10]) {

@@ -1,6 +1,7 @@
 // Images: what is wrong, or who the meter is, its points, its switch dates, and how many readings and events it has of each point and record address.
+use crate::labels::Shown;
 use crate::voice::Voice;
-use crate::{labels, messages, words};
+use crate::{messages, words};
 use faults::{ImageFault, ImageRule};
 use fields::{DatesFound, IdentityFound, Key};
 use label::LabelB;
@@ -51,20 +52,25 @@ fn dates(voice: Voice, image: &[u8]) {
     }
 }
 
+// The first label of some, and the last.
+fn ends(voice: Voice, first: Shown, last: Shown) {
+    words::first(voice);
+    first.tell(voice);
+    words::last(voice);
+    last.tell(voice);
+}
+
 // Readings have labels a, and events labels b.
 fn counted(voice: Voice, group: Group) {
     let first = group.first;
-    let are_events = first.kind == 5;
     words::addressed(voice, first.point, first.record_address);
-    if are_events {
+    if first.kind == 5 {
         words::events(voice, group.many);
+        ends(voice, first.label.into(), group.last.into());
     } else {
         words::readings(voice, group.many);
+        ends(voice, first.label.a.into(), group.last.a.into());
     }
-    words::first(voice);
-    labels::label(voice, first.label, are_events);
-    words::last(voice);
-    labels::label(voice, group.last, are_events);
 }
 
 // A group that has ended. The dates are on two lines of their own.

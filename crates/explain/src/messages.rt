@@ -1,7 +1,8 @@
 // Messages: the header, then what stands behind it, by its type. Where the octets are not as many as type and N ask for, they are shown as they are.
 use crate::books::Books;
+use crate::labels::Shown;
 use crate::voice::Voice;
-use crate::{labels, words};
+use crate::words;
 use label::{LabelA, LabelB};
 use message::{Header, Request};
 use names::Code;
@@ -43,7 +44,7 @@ fn header(voice: Voice, header: Header) {
 fn dated(voice: Voice, role: Role, label: LabelA) {
     voice.new_line();
     voice.say(role);
-    labels::label_a(voice, label);
+    Shown::from(label).tell(voice);
 }
 
 fn span(voice: Voice, from: LabelA, to: LabelA) {
@@ -59,7 +60,7 @@ pub(crate) fn switch_dates(voice: Voice, first: LabelA, second: LabelA) {
 fn time(voice: Voice, label: LabelB) {
     voice.new_line();
     voice.say(Role::Time);
-    labels::label(voice, label, true);
+    Shown::from(label).tell(voice);
 }
 
 fn password(voice: Voice, password: u32) {
@@ -111,7 +112,7 @@ fn event(voice: Voice, m: &[u8], books: &Books) {
     voice.new_line();
     let code = code(voice, m);
     words::labelled(voice);
-    labels::label(voice, LabelB::read(octets::part(m, 2, 7)), true);
+    Shown::from(LabelB::read(octets::part(m, 2, 7))).tell(voice);
     if books.are_given {
         books.name(voice, code);
     }

@@ -151,10 +151,7 @@ fn in_hex(word: Word, high: Option<u8>, c: u8, given: &mut Held) -> Result<Optio
 fn octets(word: Word, text: &[u8], from: usize, given: &mut Held) -> Result<(), Refusal> {
     let mut high = None;
     for (index, c) in text.iter().enumerate().skip(from) {
-        high = match in_hex(word, high, *c, given) {
-            Ok(high) => high,
-            Err(matter) => return Err(Refusal::at(matter, index)),
-        };
+        high = in_hex(word, high, *c, given).map_err(|matter| Refusal::at(matter, index))?;
     }
     match high {
         Some(_) => Err(Refusal::at(Matter::Half, text.len())),
@@ -196,12 +193,11 @@ fn number(
 }
 
 fn nothing(text: &[u8], from: usize) -> Result<(), Refusal> {
-    for (index, c) in text.iter().enumerate().skip(from) {
-        if !lines::is_blank(*c) {
-            return Err(Refusal::at(Matter::Behind, index));
-        }
+    let mut behind = text.iter().enumerate().skip(from);
+    match behind.find(|(_, c)| !lines::is_blank(**c)) {
+        Some((index, _)) => Err(Refusal::at(Matter::Behind, index)),
+        None => Ok(()),
     }
-    Ok(())
 }
 
 impl Request {
@@ -222,8 +218,8 @@ impl Request {
         Ok(Request { number, ..self })
     }
 
-    // What is the matter with a request that is read, and has so many octets. Without parity bits there are no characters.
-    fn matter(self, many: usize, profile: Profile) -> Option<Matter> {
+    // A request whose last line is read has to have the right number of octets, or the right number. Without parity bits there are no characters.
+    fn ended(self, many: usize, profile: Profile) -> Result<Request, Refusal> {
         let (right, matter) = match self.word {
             Word::Label => (matches!(many, 5 | 7), Matter::LabelSize),
             Word::Compare => (matches!(many, 10 | 14), Matter::CompareSize),
@@ -233,17 +229,14 @@ impl Request {
             Word::Event => (many == 2, Matter::EventSize),
             Word::Buffer => (self.number.is_some(), Matter::Number),
             Word::Profile => (matches!(self.number, Some(10 | 11)), Matter::ProfileNumber),
-            Word::Characters if many % 2 == 1 => return Some(Matter::Unpaired),
+            Word::Characters if many % 2 == 1 => (false, Matter::Unpaired),
             Word::Characters => (matches!(profile, Profile::Eleven), Matter::TenBits),
-            _ => return None,
+            _ => return Ok(self),
         };
-        if right { None } else { Some(matter) }
-    }
-
-    fn ended(self, many: usize, profile: Profile) -> Result<Request, Refusal> {
-        match self.matter(many, profile) {
-            Some(matter) => Err(Refusal::whole(matter)),
-            None => Ok(self),
+        if right {
+            Ok(self)
+        } else {
+            Err(Refusal::whole(matter))
         }
     }
 }

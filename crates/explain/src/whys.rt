@@ -1,8 +1,9 @@
 // Why the meter says no: the line of the first rule that applies to a message, what would have been right and what was found, and what to look at. The
 // card is asked as it is, and nothing is changed.
+use crate::labels::Shown;
 use crate::messages::Role;
 use crate::voice::Voice;
-use crate::{images, labels, lines, words};
+use crate::{images, lines, words};
 use address::PointAddress;
 use card::Card;
 use label::{LabelA, LabelB};
@@ -34,22 +35,16 @@ pub enum Part {
     N(u8),
 }
 
-fn unless(same: bool, part: Part) -> Option<Part> {
-    if same { None } else { Some(part) }
-}
-
 // The parts of a message's shape that differ from those that are listed. An octet with SQ is never as listed.
 fn differing(row: Row, request: Request) -> [Option<Part>; 4] {
-    let structure = request.header.structure;
+    let octets = request.octets;
     let cause = request.header.cause % 64;
+    let structure = request.header.structure;
     [
-        unless(
-            request.octets == usize::from(row.octets),
-            Part::Octets(request.octets),
-        ),
-        unless(cause == row.cause, Part::Cause(cause)),
-        unless(structure < 128, Part::Sq),
-        unless(structure == row.count, Part::N(structure % 128)),
+        (octets != usize::from(row.octets)).then_some(Part::Octets(octets)),
+        (cause != row.cause).then_some(Part::Cause(cause)),
+        (128 <= structure).then_some(Part::Sq),
+        (structure != row.count).then_some(Part::N(structure % 128)),
     ]
 }
 
@@ -73,7 +68,7 @@ fn address(voice: Voice, request: Request) {
 
 fn label(voice: Voice, role: Role, label: LabelA) {
     words::found(voice, role);
-    labels::label_a(voice, label)
+    Shown::from(label).tell(voice);
 }
 
 // A label that is at fault.
@@ -95,7 +90,7 @@ fn span_at_fault(voice: Voice, request: Request) {
 
 fn time(voice: Voice, label: LabelB) {
     words::found(voice, Role::Time);
-    labels::label(voice, label, true);
+    Shown::from(label).tell(voice);
 }
 
 // 181 sets one label b, 186 two labels a.
@@ -107,40 +102,43 @@ fn to_set(voice: Voice, request: Request) {
     fault(voice, Role::SecondSwitch, request.last);
 }
 
-// What was found, where the sentence does not say it.
-fn found(voice: Voice, rule: Rule, image: &[u8], clock: [u8; 7], request: Request) {
-    match rule {
-        Rule::Marked => words::marked(voice, request.header.cause),
-        Rule::UnknownPoint => points(voice, image, request.header.point),
-        Rule::Shape => shape(voice, request),
-        Rule::Address => address(voice, request),
-        Rule::ReadingLabel | Rule::EventLabel => span_at_fault(voice, request),
-        Rule::ReadingRange | Rule::NoReading | Rule::EventRange | Rule::NoEvent => {
-            span(voice, request)
-        }
-        Rule::ClockUnset => time(voice, LabelB::read(&clock)),
-        Rule::TimeLabel => to_set(voice, request),
-        Rule::WrongPassword => words::password(voice, request.password),
-        _ => {}
-    }
-}
-
-// ---- the request ----
-
-// A rule's sentence, and what to look at where it refuses.
-fn named(
-    voice: Voice,
-    rule: Rule,
+// A message, and what it is judged by.
+#[derive(Clone, Copy)]
+struct Case<'a> {
     session: Session,
-    image: &[u8],
+    image: &'a [u8],
     clock: [u8; 7],
     request: Request,
-) {
-    words::right(voice, rule, session, request);
-    found(voice, rule, image, clock, request);
-    if !matches!(rule, Rule::Accepted) {
-        voice.new_line();
-        words::look_at(voice, rule);
+}
+
+impl Case<'_> {
+    // What was found, where the sentence does not say it.
+    fn found(self, voice: Voice, rule: Rule) {
+        let request = self.request;
+        match rule {
+            Rule::Marked => words::marked(voice, request.header.cause),
+            Rule::UnknownPoint => points(voice, self.image, request.header.point),
+            Rule::Shape => shape(voice, request),
+            Rule::Address => address(voice, request),
+            Rule::ReadingLabel | Rule::EventLabel => span_at_fault(voice, request),
+            Rule::ReadingRange | Rule::NoReading | Rule::EventRange | Rule::NoEvent => {
+                span(voice, request)
+            }
+            Rule::ClockUnset => time(voice, LabelB::read(&self.clock)),
+            Rule::TimeLabel => to_set(voice, request),
+            Rule::WrongPassword => words::password(voice, request.password),
+            _ => {}
+        }
+    }
+
+    // A rule's sentence, and what to look at where it refuses.
+    fn tell(self, voice: Voice, rule: Rule) {
+        words::right(voice, rule, self.session, self.request);
+        self.found(voice, rule);
+        if !matches!(rule, Rule::Accepted) {
+            voice.new_line();
+            words::look_at(voice, rule);
+        }
     }
 }
 
@@ -156,13 +154,12 @@ pub(crate) fn explain(voice: Voice, card: Card, image: &[u8], clock: [u8; 7], me
             images::fault(below, faults::of_image(image));
         }
         Why::MessageLength => words::message_size(below, message.len()),
-        Why::Named(rule) => named(
-            below,
-            rule,
-            card.link.session,
+        Why::Named(rule) => Case {
+            session: card.link.session,
             image,
             clock,
-            Request::read(message),
-        ),
+            request: Request::read(message),
+        }
+        .tell(below, rule),
     }
 }

@@ -20,62 +20,37 @@ use std::fmt;
 
 // ---- requests, and what is the matter with them ----
 
+const REQUESTS: [(&str, Word); 21] = [
+    ("label", Word::Label),
+    ("compare", Word::Compare),
+    ("frame", Word::Frame),
+    ("message", Word::Message),
+    ("image", Word::Image),
+    ("clock", Word::Clock),
+    ("buffer", Word::Buffer),
+    ("power-on", Word::PowerOn),
+    ("session", Word::Session),
+    ("octets", Word::Octets),
+    ("gap", Word::Gap),
+    ("run", Word::Run),
+    ("ask", Word::Ask),
+    ("collect", Word::Collect),
+    ("state", Word::State),
+    ("book", Word::Book),
+    ("italian", Word::Italian),
+    ("event", Word::Event),
+    ("profile", Word::Profile),
+    ("characters", Word::Characters),
+    ("why", Word::Why),
+];
+
 impl Word {
-    const ALL: [Word; 21] = [
-        Word::Label,
-        Word::Compare,
-        Word::Frame,
-        Word::Message,
-        Word::Image,
-        Word::Clock,
-        Word::Buffer,
-        Word::PowerOn,
-        Word::Session,
-        Word::Octets,
-        Word::Gap,
-        Word::Run,
-        Word::Ask,
-        Word::Collect,
-        Word::State,
-        Word::Book,
-        Word::Italian,
-        Word::Event,
-        Word::Profile,
-        Word::Characters,
-        Word::Why,
-    ];
-
-    fn text(self) -> &'static str {
-        match self {
-            Word::Label => "label",
-            Word::Compare => "compare",
-            Word::Frame => "frame",
-            Word::Message => "message",
-            Word::Image => "image",
-            Word::Clock => "clock",
-            Word::Buffer => "buffer",
-            Word::PowerOn => "power-on",
-            Word::Session => "session",
-            Word::Octets => "octets",
-            Word::Gap => "gap",
-            Word::Run => "run",
-            Word::Ask => "ask",
-            Word::Collect => "collect",
-            Word::State => "state",
-            Word::Book => "book",
-            Word::Italian => "italian",
-            Word::Event => "event",
-            Word::Profile => "profile",
-            Word::Characters => "characters",
-            Word::Why => "why",
-        }
-    }
-
     // The word that a text is, in large letters or small.
     pub(crate) fn of(text: &[u8]) -> Option<Word> {
-        Word::ALL
+        REQUESTS
             .into_iter()
-            .find(|word| text.eq_ignore_ascii_case(word.text().as_bytes()))
+            .find(|(name, _)| text.eq_ignore_ascii_case(name.as_bytes()))
+            .map(|(_, word)| word)
     }
 }
 
@@ -115,8 +90,8 @@ impl fmt::Display for Matter {
 pub(crate) fn expected(voice: Voice, matter: Matter) {
     voice.say(matter);
     if matches!(matter, Matter::Word) {
-        for word in Word::ALL {
-            say!(voice, " {}", word.text());
+        for (name, _) in REQUESTS {
+            say!(voice, " {name}");
         }
     }
 }
