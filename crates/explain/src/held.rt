@@ -1,18 +1,21 @@
 // Octets that are held: what a request gives, an image, a book.
-ghost use Rattle.std.specs.Prelude.{◌≤◌};
+ghost use Rattle.std.specs.Prelude.{◌≤◌, length};
 
-// The first so many of as many as the longest request gives.
+// As many as the longest request gives.
+const ROOM: usize = 65600;
+
+// The first so many of them.
 #[derive(Clone, Copy)]
 pub struct Held {
-    octets: [u8; 65600],
+    octets: [u8; ROOM],
     many: usize,
-    ghost fits: { many ≤ 65600 },
+    ghost fits: { many ≤ length octets },
 }
 
 impl Held {
     pub(crate) fn new() -> Held {
         Held {
-            octets: [0; 65600],
+            octets: [0; ROOM],
             many: 0,
         }
     }

@@ -21,7 +21,7 @@ mod words;
 use bench::Bench;
 use held::Held;
 use reading::Reading;
-use requests::{Reader, Refusal, Request, Step};
+use requests::{Progress, Refusal, Request, Step};
 use voice::Voice;
 
 fn complain(voice: Voice, line: u64, refusal: Refusal) {
@@ -42,27 +42,27 @@ fn carry_out(voice: Voice, bench: &mut Bench, request: Request, given: &Held) {
 
 // What the line that stands first asks for.
 fn next_step(
-    reader: &mut Reader,
+    progress: &mut Progress,
     number: u64,
     input: &Reading,
     bench: &Bench,
     given: &mut Held,
 ) -> Step {
     if input.is_empty() {
-        reader.end()
+        progress.end()
     } else if input.is_too_long() {
-        reader.long_line(number)
+        progress.long_line(number)
     } else {
-        reader.line(number, input.line(), bench.profile, given)
+        progress.line(number, input.line(), bench.profile, given)
     }
 }
 
 // Lines until the input ends. A loop must end, so its budget is the line's number: no input uses it up.
 fn explain_lines(input: &mut Reading, voice: Voice, bench: &mut Bench, given: &mut Held) {
-    let mut reader = Reader::Idle;
+    let mut progress = Progress::Idle;
     for number in 1..u64::MAX {
         input.read_line();
-        match next_step(&mut reader, number, input, bench, given) {
+        match next_step(&mut progress, number, input, bench, given) {
             Step::PassOn => pass_on(voice, input.line()),
             Step::Wait => {}
             Step::Complain(line, refusal) => complain(voice, line, refusal),
@@ -73,6 +73,7 @@ fn explain_lines(input: &mut Reading, voice: Voice, bench: &mut Bench, given: &m
     }
 }
 
+// All that the program keeps stands here: the lines that are read, the bench, and what a request gives.
 fn main(rt: HostRuntime) {
     let mut input = Reading::new(rt.stdin());
     let mut bench = Bench::new();

@@ -68,51 +68,40 @@ fn password(voice: Voice, password: u32) {
     words::password(voice, password);
 }
 
-fn number_at(m: &[u8], at: usize) -> u32 {
-    let m = octets::part(m, at, 4);
-    octets::low_first_4(
-        octets::octet_at(m, 0),
-        octets::octet_at(m, 1),
-        octets::octet_at(m, 2),
-        octets::octet_at(m, 3),
-    )
-}
-
 fn identity(voice: Voice, body: &[u8]) {
+    let [date, maker, a, b, c, d] = body else {
+        return;
+    };
     voice.new_line();
-    words::identity(
-        voice,
-        octets::octet_at(body, 0),
-        octets::octet_at(body, 1),
-        number_at(body, 2),
-    );
+    words::identity(voice, *date, *maker, u32::from_le_bytes([*a, *b, *c, *d]));
 }
 
 // An object's number, its value and its quality.
 fn object(voice: Voice, m: &[u8]) {
+    let [number, a, b, c, d, quality] = m else {
+        return;
+    };
     voice.new_line();
-    words::object(
-        voice,
-        octets::octet_at(m, 0),
-        octets::signed(number_at(m, 1)),
-    );
-    words::quality(voice, octets::octet_at(m, 5));
+    words::object(voice, *number, i32::from_le_bytes([*a, *b, *c, *d]));
+    words::quality(voice, *quality);
 }
 
 // The two octets of an event say its code and SPI, which is the lowest bit.
-fn code(voice: Voice, m: &[u8]) -> Code {
-    let octet = octets::octet_at(m, 1);
-    let code = Code::of_event(octets::octet_at(m, 0), octet);
-    words::event(voice, code, octet % 2);
+fn code(voice: Voice, first: u8, second: u8) -> Code {
+    let code = Code::of_event(first, second);
+    words::event(voice, code, second % 2);
     code
 }
 
 // An event with its label, and its name where a book has been given.
 fn event(voice: Voice, m: &[u8], books: &Books) {
+    let [first, second, label @ ..] = m else {
+        return;
+    };
     voice.new_line();
-    let code = code(voice, m);
+    let code = code(voice, *first, *second);
     words::labelled(voice);
-    Shown::from(LabelB::read(octets::part(m, 2, 7))).tell(voice);
+    Shown::from(LabelB::read(label)).tell(voice);
     if books.are_given {
         books.name(voice, code);
     }
@@ -120,7 +109,9 @@ fn event(voice: Voice, m: &[u8], books: &Books) {
 
 // An event's two octets by themselves, and its name.
 pub(crate) fn name(voice: Voice, given: &[u8], books: &Books) {
-    books.name(voice, code(voice, given));
+    if let [first, second] = given {
+        books.name(voice, code(voice, *first, *second));
+    }
 }
 
 fn events(voice: Voice, body: &[u8], books: &Books) {

@@ -3,11 +3,13 @@ use crate::lines;
 use std::io::Stdin;
 use stream::Window;
 
-// The longest line with its newline has room.
+// The longest line with its newline.
+const ROOM: usize = 262145;
+
 #[derive(Drop)]
 pub struct Reading {
     from: Stdin,
-    space: [u8; 262145],
+    space: [u8; ROOM],
     window: Window,
 }
 
@@ -15,7 +17,7 @@ impl Reading {
     pub(crate) fn new(from: Stdin) -> Reading {
         Reading {
             from,
-            space: [0; 262145],
+            space: [0; ROOM],
             window: Window { from: 0, to: 0 },
         }
     }

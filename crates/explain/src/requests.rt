@@ -76,9 +76,9 @@ pub enum Step {
     End,
 }
 
-// What the next line goes on with: nothing; a request that is in order so far; one that is not, which has been said.
+// How far the request is read that the next line goes on with: there is none; it is in order so far; it is not, which has been said.
 #[derive(Clone, Copy)]
-pub enum Reader {
+pub enum Progress {
     Idle,
     Within(Request),
     Refused,
@@ -264,7 +264,7 @@ fn begun(line: u64, text: &[u8], given: &mut Held) -> Result<Request, Refusal> {
     request.read(text, from + size, given)
 }
 
-impl Reader {
+impl Progress {
     // The next line is read: it is passed on, or a request begins in it or goes on. A backslash ends a line in whose next one it is to go on.
     pub(crate) fn line(
         &mut self,
@@ -286,26 +286,26 @@ impl Reader {
     // The request with what stands in a line; none where it was refused before.
     fn with(self, number: u64, text: &[u8], given: &mut Held) -> Option<Result<Request, Refusal>> {
         match self {
-            Reader::Idle => Some(begun(number, text, given)),
-            Reader::Within(request) => {
+            Progress::Idle => Some(begun(number, text, given)),
+            Progress::Within(request) => {
                 let request = Request {
                     line: number,
                     ..request
                 };
                 Some(request.read(text, 0, given))
             }
-            Reader::Refused => None,
+            Progress::Refused => None,
         }
     }
 
     fn goes_on(&mut self, number: u64, text: &[u8], given: &mut Held) -> Step {
         match self.with(number, text, given) {
             Some(Ok(request)) => {
-                *self = Reader::Within(request);
+                *self = Progress::Within(request);
                 Step::Wait
             }
             Some(Err(refusal)) => {
-                *self = Reader::Refused;
+                *self = Progress::Refused;
                 Step::Complain(number, refusal)
             }
             None => Step::Wait,
@@ -314,7 +314,7 @@ impl Reader {
 
     fn ends(&mut self, number: u64, text: &[u8], profile: Profile, given: &mut Held) -> Step {
         let read = self.with(number, text, given);
-        *self = Reader::Idle;
+        *self = Progress::Idle;
         let Some(read) = read else {
             return Step::Wait;
         };
@@ -326,16 +326,16 @@ impl Reader {
 
     // A line that is too long: a request that was to go on is dropped.
     pub(crate) fn long_line(&mut self, number: u64) -> Step {
-        *self = Reader::Idle;
+        *self = Progress::Idle;
         Step::Complain(number, Refusal::whole(Matter::TooLong))
     }
 
     // No line is left. A request that was to go on is dropped, which is said unless something else was the matter.
     pub(crate) fn end(&mut self) -> Step {
         let before = *self;
-        *self = Reader::Idle;
+        *self = Progress::Idle;
         match before {
-            Reader::Within(request) => {
+            Progress::Within(request) => {
                 Step::Complain(request.line, Refusal::whole(Matter::Unended))
             }
             _ => Step::End,
