@@ -1,6 +1,7 @@
 // Lines of text: where one ends, and what stands in it before its comment.
 
-// A space, a tab, and the octet that some systems put before a newline, are blanks.
+// A space, a tab, and the octet that some systems put before a newline, are blanks. std's ASCII white space has a form feed besides, which is text here,
+// so neither its test nor `trim_ascii_end` serves.
 pub(crate) fn is_blank(c: u8) -> bool {
     matches!(c, b'\t' | b'\r' | b' ')
 }
