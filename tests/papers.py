@@ -27,7 +27,7 @@ README, WHY, STORED = ROOT / "README.md", ROOT / "docs" / "WHY.md", CRATES / "ex
 EXAMPLES = ((README, ("explain.txt", "active-energy.txt", "autumn-hour.txt", "event-names.txt", "eleven-bits.txt", "why.txt")), (WHY, ("no-session.txt",)))
 WORKED_OUT = ("fields/specs/working/Key", "image/specs/working/Keys", "choice/specs/working/Keys", "faults/specs/working/Walking",
               "names/specs/working/Pass")
-PROGRAMS = ("input", "stream", "printing", "turns", "driving", "explain")
+PROGRAMS = ("input", "stream", "printing", "turns", "driving")
 BESIDES = "## What is said besides"
 SAYS_NOTHING = ("Unit {0}", "⊤")
 EXPORTS = {"collector_c": "collector"}
@@ -209,9 +209,10 @@ def source(crate, file):
     return (CRATES / crate / "src" / file).read_text(encoding="utf8")
 
 
-def spoken(table):
-    """The texts of a table among explain's words, each of which ends with a semicolon."""
-    return re.search(rf'^const {table}: \[u8; \d+\] =\s+\*b"(.*)";$', source("explain", "words.rt"), re.M).group(1).split(";")[:-1]
+def spoken(function):
+    """What a function of explain's words says of each rule."""
+    body = source("explain", "words.rt").partition(f"fn {function}(")[2].partition("\n}\n")[0]
+    return dict(re.findall(r'Rule::(\w+) => \{?\s*"(.*)"', body))
 
 
 def rule_words():
@@ -239,14 +240,14 @@ def refusal(rule):
 
 def why(text, _, errors):
     """docs/WHY.md with its table of the rules written anew."""
-    places, names, words, looks = by_rule("why", "place"), spoken("RULES"), rule_words(), spoken("LOOK_AT")
+    places, names, words, looks = by_rule("why", "place"), spoken("name_of"), rule_words(), spoken("look_at")
     if not len(places) == len(names) == len(words) == len(looks):
         errors.append(f"docs/WHY.md: {len(places)} rules, {len(names)} names, {len(words)} words, {len(looks)} texts on what to look at")
         return text
     rows = ["| No. | Rule | Word | Cause | P/N | What to look at |", "|---|---|---|---|---|---|"]
     for rule, place in sorted(places.items(), key=lambda pair: int(pair[1])):
         at, (cause, pn) = int(place) - 1, refusal(rule)
-        rows.append(f"| {place} | {names[at]} | `{words[at]}` | {cause} | {pn} | {looks[at] or '-'} |")
+        rows.append(f"| {place} | {names[rule]} | `{words[at]}` | {cause} | {pn} | {looks[rule] or '-'} |")
     written, tables = re.subn(r"<!--rules-->.*?<!---->", lambda _: "\n".join(["<!--rules-->", *rows, "<!---->"]), text, flags=re.S)
     if tables != 1:
         errors.append(f"docs/WHY.md: {tables} tables of rules")

@@ -1,388 +1,194 @@
 // The bench: a card, what is lent to it, and what each request does to them.
-ghost use Rattle.std.specs.Prelude.{◌<◌};
-
-use crate::cards::Met;
-use crate::requests::{Argument, Request, Word};
-use crate::{books, cards, frames, images, labels, lines, messages, whys, words};
+use crate::books::Books;
+use crate::held::Held;
+use crate::requests::{Request, Word};
+use crate::voice::Voice;
+use crate::{cards, frames, images, labels, messages, whys, words};
 use address::PointAddress;
-use card::{Card, Gone};
+use card::Card;
 use deeds::Pending;
 use link::Link;
-use message::Request as Option<Service>;
+use message::Request as Asked;
+use names::Which;
 use profile::{Character, Profile};
-use rules::Session;
-use std::io::Stdout;
+use rules::{Rule, Session};
 
-// What is lent to the card with every gap: how many octets the image has, the clock, how many octets the reply buffer has.
-#[derive(Clone, Copy)]
-pub struct Lent {
-    pub image: usize,
-    pub clock: [u8; 7],
-    pub buffer: usize,
-}
-
-#[derive(Clone, Copy)]
+// A card of a profile; the image, the clock, and how many octets of a reply buffer, that are lent to it with every gap; and the books.
+#[derive(Drop)]
 pub struct Bench {
-    pub card: Card,
+    card: Card,
     pub profile: Profile,
-    pub lent: Lent,
+    image: Held,
+    clock: [u8; 7],
+    buffer: u16,
+    books: Books,
 }
 
-pub(crate) fn start() -> Bench {
-    Bench {
-        card: Card::power_on(),
-        profile: Profile::Ten,
-        lent: Lent {
-            image: 0,
+impl Bench {
+    pub(crate) fn new() -> Bench {
+        Bench {
+            card: Card::power_on(),
+            profile: Profile::Ten,
+            image: Held::new(),
             clock: [0; 7],
             buffer: 261,
-        },
+            books: Books::new(),
+        }
     }
-}
 
-// ---- what is lent ----
-
-fn lend(output: Stdout, lent: Lent, request: Request, given: &[u8], shelf: &mut [u8]) -> Lent {
-    let word = request.word;
-    let argument = request.argument;
-    match word {
-        Word::Image => lend_image(output, lent, given, shelf),
-        Word::Clock => lend_clock(output, lent, given),
-        Word::Book => lend_book(output, lent, 0, given, shelf),
-        Word::Italian => lend_book(output, lent, 1, given, shelf),
-        _ => lend_buffer(output, lent, argument.number),
+    // A request is carried out.
+    pub(crate) fn obey(&mut self, voice: Voice, request: Request, given: &Held) {
+        let octets = given.octets();
+        match request.word {
+            Word::Label => labels::explain(voice, octets),
+            Word::Compare => labels::compare(voice, octets),
+            Word::Frame => frames::explain(voice.indented(), octets, true, &self.books),
+            Word::Message => messages::explain(voice.indented(), octets, &self.books),
+            Word::Event => messages::name(voice, octets, &self.books),
+            Word::Image => self.lend_image(voice, given),
+            Word::Clock => self.lend_clock(voice, octets),
+            Word::Buffer => self.lend_buffer(voice, request.number),
+            Word::Book => self.books.lend(voice, Which::Chosen, given),
+            Word::Italian => self.books.lend(voice, Which::Italian, given),
+            Word::PowerOn => self.power_on(voice),
+            Word::Profile => self.set_profile(voice, request.number),
+            Word::Session => self.set_session(voice, request.number),
+            Word::State => self.show(voice, false),
+            Word::Octets => self.collect_octets(voice, octets),
+            Word::Characters => self.collect_characters(voice, octets),
+            Word::Gap => self.gap(voice, None),
+            Word::Run => self.run(voice, octets),
+            Word::Ask => self.ask(voice, octets),
+            Word::Collect => self.collect(voice),
+            Word::Why => {
+                whys::explain(voice, self.card, self.image.octets(), self.clock, octets)
+            }
+        }
     }
-}
 
-// The image stands at the front of the shelf.
-fn lend_image(output: Stdout, lent: Lent, given: &[u8], shelf: &mut [u8]) -> Lent {
-    let clock = lent.clock;
-    octets::put(shelf, 0, given);
-    images::explain(output, given);
-    Lent {
-        image: given.len(),
-        clock,
-        buffer: lent.buffer,
+    // ---- what is lent ----
+
+    fn lend_image(&mut self, voice: Voice, image: &Held) {
+        self.image = *image;
+        images::explain(voice, image.octets());
     }
-}
 
-fn lend_clock(output: Stdout, lent: Lent, given: &[u8]) -> Lent {
-    labels::explain(output, given);
-    Lent {
-        image: lent.image,
-        clock: input::clock_at(given, 0),
-        buffer: lent.buffer,
+    fn lend_clock(&mut self, voice: Voice, clock: &[u8]) {
+        self.clock = input::clock_at(clock, 0);
+        labels::explain(voice, clock);
     }
-}
 
-fn lend_buffer(output: Stdout, lent: Lent, many: usize) -> Lent {
-    let clock = lent.clock;
-    words::buffer(output, many as u64);
-    Lent {
-        image: lent.image,
-        clock,
-        buffer: many,
+    fn lend_buffer(&mut self, voice: Voice, many: Option<u16>) {
+        if let Some(many) = many {
+            self.buffer = many;
+            words::buffer(voice, many);
+        }
     }
-}
 
-fn lend_book(output: Stdout, lent: Lent, which: u8, given: &[u8], shelf: &mut [u8]) -> Lent
-    requires { which < 2 }
-{
-    books::lend(output, shelf, which, given);
-    lent
-}
+    // ---- the card as it is to be ----
 
-// ---- the card as it is to be ----
-
-fn session_of(argument: Argument) -> Session {
-    if argument.count == 0 {
-        return Session::Closed;
+    // The card as it is now, with its state said; its profile is said where it is to be `named`.
+    fn show(&self, voice: Voice, named: bool) {
+        cards::state(voice, self.card);
+        cards::profile(voice, self.profile, named);
     }
-    Session::Open(PointAddress((argument.number % 65536) as u16))
-}
 
-// The card as if a session had just been opened or closed, and the ACK had been sent for it.
-fn in_session(card: Card, session: Session, image: &[u8]) -> Card {
-    let collector = card.collector;
-    let before = card.link;
-    let link = Link {
-        reset: true,
-        fcb: before.fcb,
-        session,
-        remembered: cards::acknowledged(image),
-        pending: Pending::new(),
-    };
-    Card {
-        collector,
-        link,
-        damaged: card.damaged,
+    fn power_on(&mut self, voice: Voice) {
+        self.card = Card::power_on();
+        self.show(voice, false);
     }
-}
 
-// Another profile is another card: one profile serves for all that a card is given.
-fn set_up(card: Card, request: Request, image: &[u8]) -> Card {
-    let word = request.word;
-    let argument = request.argument;
-    match word {
-        Word::PowerOn => Card::power_on(),
-        Word::Profile => Card::power_on(),
-        Word::Session => in_session(card, session_of(argument), image),
-        _ => card,
+    // Another profile is another card: one profile serves for all that a card is given.
+    fn set_profile(&mut self, voice: Voice, bits: Option<u16>) {
+        self.card = Card::power_on();
+        self.profile = match bits {
+            Some(11) => Profile::Eleven,
+            _ => Profile::Ten,
+        };
+        self.show(voice, true);
     }
-}
 
-fn profile_of(number: usize) -> Profile {
-    if number == 11 {
-        return Profile::Eleven;
+    // The card as if a session had just been opened or closed, and the ACK had been sent for it.
+    fn set_session(&mut self, voice: Voice, point: Option<u16>) {
+        let session = match point {
+            Some(point) => Session::Open(PointAddress(point)),
+            None => Session::Closed,
+        };
+        self.card.link = Link {
+            reset: true,
+            session,
+            remembered: cards::acknowledged(self.image.octets()),
+            pending: Pending::new(),
+            ..self.card.link
+        };
+        self.show(voice, false);
     }
-    Profile::Ten
-}
 
-fn is_profile(word: Word) -> bool {
-    match word {
-        Word::Profile => true,
-        _ => false,
+    // ---- what the card is given ----
+
+    fn give(&mut self, octets: &[u8]) {
+        self.card = self.card.octets(octets);
     }
-}
 
-fn profile_after(profile: Profile, request: Request) -> Profile {
-    let word = request.word;
-    let argument = request.argument;
-    match word {
-        Word::Profile => profile_of(argument.number),
-        _ => profile,
+    fn collect_octets(&mut self, voice: Voice, octets: &[u8]) {
+        words::octets_in(voice, octets.len());
+        self.give(octets);
     }
-}
 
-// ---- what the card is given ----
-
-fn collecting(output: Stdout, card: Card, given: &[u8]) -> Card {
-    words::octets_in(output, given.len() as u64);
-    card.octets(given)
-}
-
-// The character at a place: an octet, and its parity bit behind it.
-fn character_at(given: &[u8], at: usize) -> Character {
-    Character {
-        octet: octets::octet_at(given, at),
-        parity: octets::octet_at(given, lines::one_more(at)) == 1,
+    // Every octet has its parity bit behind it.
+    fn collect_characters(&mut self, voice: Voice, octets: &[u8]) {
+        words::octets_in(voice, octets.len() / 2);
+        for (before, pair) in octets.chunks_exact(2).enumerate() {
+            let character = Character {
+                octet: pair[0],
+                parity: pair[1] == 1,
+            };
+            cards::character(voice.indented(), before + 1, character);
+            self.card = self.card.character(character);
+        }
     }
-}
 
-fn collecting_characters(output: Stdout, card: Card, given: &[u8]) -> Card {
-    let mut now = card;
-    let mut at = 0;
-    words::octets_in(output, (given.len() / 2) as u64);
-    while at < given.len() {
-        let character = character_at(given, at);
-        cards::character(output, (at / 2 + 1) as u64, character);
-        now = now.character(character);
-        at += 2;
+    // A buffer over 261 octets serves like one that has 261.
+    fn gap(&mut self, voice: Voice, met: Option<Rule>) {
+        let mut buffer = [0; 261];
+        let room = usize::from(self.buffer.min(261));
+        let gone = self
+            .card
+            .gap(self.image.octets(), self.clock, &mut buffer[..room]);
+        let sent = octets::part(&buffer, 0, usize::from(gone.length));
+        cards::gap(voice, gone, met, sent, &self.books);
+        self.card = gone.card;
     }
-    now
-}
 
-fn gap(card: Card, lent: Lent, image: &[u8], buffer: &mut [u8]) -> Gone {
-    let clock = lent.clock;
-    let room = lent.buffer;
-    if room <= buffer.len() {
-        return card.gap(image, clock, &mut buffer[..room]);
+    fn run(&mut self, voice: Voice, octets: &[u8]) {
+        self.give(octets);
+        self.gap(voice, None);
     }
-    card.gap(image, clock, buffer)
-}
 
-fn answered(output: Stdout, gone: Gone, met: Met, buffer: &[u8], shelf: &[u8]) -> Card {
-    let order = gone.order;
-    let time = gone.time;
-    let sent = octets::part(buffer, 0, gone.length as usize);
-    cards::gap(output, gone.number, order, time, met, sent, shelf);
-    gone.card
-}
-
-// Octets and a gap. A buffer over 261 octets serves like one that has 261.
-fn run(
-    output: Stdout,
-    card: Card,
-    lent: Lent,
-    given: &[u8],
-    met: Met,
-    image: &[u8],
-    shelf: &[u8],
-) -> Card {
-    let mut buffer = [0u8; 261];
-    let fed = card.octets(given);
-    let gone = gap(fed, lent, image, &mut buffer);
-    answered(output, gone, met, &buffer, shelf)
-}
-
-// The rule that applies to a message, where nothing stands before its frame.
-fn met(card: Card, lent: Lent, image: &[u8], message: &[u8]) -> Met {
-    let collector = card.collector;
-    let link = card.link;
-    let session = link.session;
-    let clock = lent.clock;
-    if collector.length == 0 {
-        return Met::By(rules::decide(session, image, clock, Option<Service>::read(message)));
+    // The rule that applies to a message, where nothing stands before its frame.
+    fn met(&self, message: &[u8]) -> Option<Rule> {
+        let session = self.card.link.session;
+        let message = Asked::read(message);
+        (self.card.collector.length == 0).then(|| rules::decide(
+            session,
+            self.image.octets(),
+            self.clock,
+            message,
+        ))
     }
-    Met::Unknown
-}
 
-// A message, in a frame of user data with the FCB that is new.
-fn ask(output: Stdout, card: Card, lent: Lent, message: &[u8], image: &[u8], shelf: &[u8]) -> Card {
-    let mut space = [0u8; 261];
-    let link = card.link;
-    let size = cards::user_data(&mut space, link.fcb, image, message);
-    let met = met(card, lent, image, message);
-    run(
-        output,
-        card,
-        lent,
-        octets::part(&space, 0, size),
-        met,
-        image,
-        shelf,
-    )
-}
-
-fn collect(output: Stdout, card: Card, lent: Lent, image: &[u8], shelf: &[u8]) -> Card {
-    let link = card.link;
-    let frame = cards::collection(link.fcb, image);
-    run(output, card, lent, &frame, Met::Unknown, image, shelf)
-}
-
-// A gap is a run to which no octets are added.
-fn give(
-    output: Stdout,
-    card: Card,
-    lent: Lent,
-    word: Word,
-    given: &[u8],
-    image: &[u8],
-    shelf: &[u8],
-) -> Card {
-    let clock = lent.clock;
-    match word {
-        Word::Octets => collecting(output, card, given),
-        Word::Characters => collecting_characters(output, card, given),
-        Word::Ask => ask(output, card, lent, given, image, shelf),
-        Word::Collect => collect(output, card, lent, image, shelf),
-        Word::Why => whys::explain(output, card, image, clock, given),
-        _ => run(output, card, lent, given, Met::Unknown, image, shelf),
+    // A message, in a frame of user data with the FCB that is new.
+    fn ask(&mut self, voice: Voice, message: &[u8]) {
+        let met = self.met(message);
+        let (head, end) = cards::user_data(self.card.link.fcb, self.image.octets(), message);
+        self.give(&head);
+        self.give(message);
+        self.give(&end);
+        self.gap(voice, met);
     }
-}
 
-// ---- requests ----
-
-// What changes nothing.
-fn tell(output: Stdout, word: Word, given: &[u8], shelf: &[u8]) {
-    match word {
-        Word::Label => labels::explain(output, given),
-        Word::Compare => labels::compare(output, given),
-        Word::Frame => frames::explain(output, 2, given, true, shelf),
-        Word::Message => messages::explain(output, 2, given, shelf),
-        _ => messages::name(output, given, shelf),
-    }
-}
-
-// What a request is about.
-#[derive(Clone, Copy)]
-enum About {
-    Octets,
-    Lent,
-    State,
-    Card,
-}
-
-fn subject(word: Word) -> About {
-    match word {
-        Word::Label => About::Octets,
-        Word::Compare => About::Octets,
-        Word::Frame => About::Octets,
-        Word::Message => About::Octets,
-        Word::Event => About::Octets,
-        Word::Image => About::Lent,
-        Word::Clock => About::Lent,
-        Word::Buffer => About::Lent,
-        Word::Book => About::Lent,
-        Word::Italian => About::Lent,
-        Word::PowerOn => About::State,
-        Word::Profile => About::State,
-        Word::Session => About::State,
-        Word::State => About::State,
-        _ => About::Card,
-    }
-}
-
-fn told(output: Stdout, bench: Bench, word: Word, given: &[u8], shelf: &[u8]) -> Bench {
-    tell(output, word, given, shelf);
-    bench
-}
-
-fn lending(
-    output: Stdout,
-    bench: Bench,
-    request: Request,
-    given: &[u8],
-    shelf: &mut [u8],
-) -> Bench {
-    let card = bench.card;
-    let profile = bench.profile;
-    let lent = bench.lent;
-    Bench {
-        card,
-        profile,
-        lent: lend(output, lent, request, given, shelf),
-    }
-}
-
-// The card as it is now, with its state said.
-fn showing(output: Stdout, bench: Bench, request: Request, shelf: &[u8]) -> Bench {
-    let word = request.word;
-    let before = bench.profile;
-    let lent = bench.lent;
-    let profile = profile_after(before, request);
-    let card = set_up(bench.card, request, octets::part(shelf, 0, lent.image));
-    cards::state(output, card);
-    cards::profile(output, profile, is_profile(word));
-    Bench {
-        card,
-        profile,
-        lent,
-    }
-}
-
-fn giving(output: Stdout, bench: Bench, word: Word, given: &[u8], shelf: &[u8]) -> Bench {
-    let card = bench.card;
-    let profile = bench.profile;
-    let lent = bench.lent;
-    Bench {
-        card: give(
-            output,
-            card,
-            lent,
-            word,
-            given,
-            octets::part(shelf, 0, lent.image),
-            shelf,
-        ),
-        profile,
-        lent,
-    }
-}
-
-// A request is carried out.
-pub(crate) fn obey(
-    output: Stdout,
-    bench: Bench,
-    request: Request,
-    given: &[u8],
-    shelf: &mut [u8],
-) -> Bench {
-    let word = request.word;
-    match subject(word) {
-        About::Octets => told(output, bench, word, given, shelf),
-        About::Lent => lending(output, bench, request, given, shelf),
-        About::State => showing(output, bench, request, shelf),
-        About::Card => giving(output, bench, word, given, shelf),
+    fn collect(&mut self, voice: Voice) {
+        let frame = cards::collection(self.card.link.fcb, self.image.octets());
+        self.run(voice, &frame);
     }
 }

@@ -1,123 +1,74 @@
 // Frames: the number of a run that is none, or what a frame asks or replies, and the message in it.
-ghost use Rattle.std.specs.Prelude.{◌<◌};
-
-use crate::{messages, voice, words};
+use crate::books::Books;
+use crate::voice::Voice;
+use crate::{messages, words};
 use address::LinkAddress;
-use frame::{Control, Form, Judged, Service};
-use std::io::Stdout;
+use frame::{Control, Form, Judged};
 
-fn service(output: Stdout, service: Service) {
-    match service {
-        Service::Reset => words::asks(output, 0, 0),
-        Service::UserData(bit) => words::asks(output, 1, bit),
-        Service::Status => words::asks(output, 2, 0),
-        Service::Collection(bit) => words::asks(output, 3, bit),
+// The reply that has a control field, in a frame of its form.
+fn reply_of(form: Form, control: u8) -> Option<Control> {
+    match (form, control) {
+        (Form::Fixed, Control::ACK) => Some(Control::Ack),
+        (Form::Fixed, Control::NACK) => Some(Control::Nack),
+        (Form::Fixed, Control::NOTHING_TO_GIVE) => Some(Control::NothingToGive),
+        (Form::Fixed, Control::STATUS) => Some(Control::Status),
+        (Form::Variable, Control::DATA) => Some(Control::Data),
+        _ => None,
     }
-}
-
-// The place of a reply's control field among the words, in a frame of its form.
-fn place(form: Form, control: u8) -> u8
-    ensures { result < 6 }
-{
-    match form {
-        Form::Fixed => match control {
-            Control::ACK => 0,
-            Control::NACK => 1,
-            Control::NOTHING_TO_GIVE => 3,
-            Control::STATUS => 4,
-            _ => 5,
-        },
-        Form::Variable => match control {
-            Control::DATA => 2,
-            _ => 5,
-        },
-    }
-}
-
-// The number of a gap, which is 0 to 10.
-pub(crate) fn number(output: Stdout, number: u8) {
-    words::number(output, number % 11);
 }
 
 // A reply's control field. A line of its own says that it is a reply, `named`; below the reply's octets that would be said twice.
-fn reply(output: Stdout, place: u8, named: bool)
-    requires { place < 5 }
-{
+fn reply(voice: Voice, reply: Control, named: bool) {
     if named {
-        words::is_reply(output);
+        words::is_reply(voice);
     }
-    words::replies(output, place);
+    words::replies(voice, reply);
 }
 
 // A control field that asks for nothing that is offered. Bit 7 is set in the centre's, and in no reply's.
-fn other(output: Stdout, form: Form, control: u8, named: bool) {
-    if control / 64 % 2 == 1 {
-        return number(output, 6);
+fn other(voice: Voice, form: Form, control: u8, named: bool) {
+    if control & 0x40 != 0 {
+        return words::number(voice, 6);
     }
-    let place = place(form, control);
-    if place < 5 {
-        return reply(output, place, named);
+    match reply_of(form, control) {
+        Some(found) => reply(voice, found, named),
+        None => words::no_reply(voice, control),
     }
-    words::no_reply(output, control)
 }
 
-fn control(output: Stdout, form: Form, control: u8, to: LinkAddress, named: bool) {
+fn control(voice: Voice, form: Form, control: u8, to: LinkAddress, named: bool) {
     match frame::service_of(form, control) {
-        Some(asked) => service(output, asked),
-        None => other(output, form, control, named),
+        Some(asked) => words::asks(voice, asked),
+        None => other(voice, form, control, named),
     }
-    words::link_address(output, to.0);
+    words::link_address(voice, to);
 }
 
 // What stands in a frame's user octets: a message, or too few octets for one.
-fn user(output: Stdout, indent: usize, user: &[u8], shelf: &[u8])
-    requires { indent < 8 }
-{
-    words::user_octets(output, user.len() as u64);
+fn user(voice: Voice, user: &[u8], books: &Books) {
+    words::user_octets(voice, user.len());
     if user.len() < 6 {
-        return messages::unread(output, indent, user);
+        return messages::unused(voice, user);
     }
-    voice::line(output, indent);
-    messages::explain(output, indent + 2, user, shelf)
+    voice.new_line();
+    messages::explain(voice.indented(), user, books)
 }
 
-fn variable(
-    output: Stdout,
-    indent: usize,
-    octet: u8,
-    to: LinkAddress,
-    carried: &[u8],
-    named: bool,
-    shelf: &[u8],
-)
-    requires { indent < 8 }
-{
-    control(output, Form::Variable, octet, to, named);
-    user(output, indent, carried, shelf);
-}
-
-// A run; what it carries is indented so far, and a reply is said to be one where it is to be `named`.
-pub(crate) fn explain(output: Stdout, indent: usize, run: &[u8], named: bool, shelf: &[u8])
-    requires { indent < 8 }
-{
+// A run; what it carries begins new lines, and a reply is said to be one where it is to be `named`.
+pub(crate) fn explain(voice: Voice, run: &[u8], named: bool, books: &Books) {
     match frame::judge(run) {
-        Judged::Faulty(why) => number(output, why.number()),
-        Judged::Fixed {
+        Err(why) => words::number(voice, why.number()),
+        Ok(Judged::Fixed {
             control: octet,
             link,
-        } => control(output, Form::Fixed, octet, link, named),
-        Judged::Variable {
+        }) => control(voice, Form::Fixed, octet, link, named),
+        Ok(Judged::Variable {
             control: octet,
             link,
             users,
-        } => variable(
-            output,
-            indent,
-            octet,
-            link,
-            frame::user(run, users),
-            named,
-            shelf,
-        ),
+        }) => {
+            control(voice, Form::Variable, octet, link, named);
+            user(voice, frame::user(run, users), books);
+        }
     }
 }

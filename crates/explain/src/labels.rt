@@ -1,162 +1,139 @@
-// Labels: the date and time, summer or standard, a summer label also in standard time; valid, and the minute, or what is wrong. A label a is shown as
-// the label b at the start of its minute, without its second.
-ghost use Rattle.std.specs.Prelude.{◌<◌};
-
-use crate::{voice, words};
-use faults::LabelFault;
+// Labels: the date and time, summer or standard, a summer label also in standard time; valid, and the minute, or what is wrong.
+use crate::voice::Voice;
+use crate::words;
 use label::{LabelA, LabelB};
-use std::io::Stdout;
+use std::cmp::Ordering;
 
-// The place of a fault among the words; 12 where there is none.
-fn place(fault: LabelFault) -> u8
-    ensures { result < 13 }
-{
-    match fault {
-        LabelFault::Iv => 0,
-        LabelFault::Tis => 1,
-        LabelFault::HourReserved => 2,
-        LabelFault::EtiPti => 3,
-        LabelFault::YearReserved => 4,
-        LabelFault::Year => 5,
-        LabelFault::Month => 6,
-        LabelFault::Day => 7,
-        LabelFault::Hour => 8,
-        LabelFault::Minute => 9,
-        LabelFault::Second => 10,
-        LabelFault::Millisecond => 11,
-        LabelFault::NoFault => 12,
+// A label as it is shown: a label a as the label b at the start of its minute, without its second.
+#[derive(Clone, Copy)]
+pub struct Shown {
+    label: LabelB,
+    seconds: bool,
+}
+
+impl From<LabelA> for Shown {
+    fn from(a: LabelA) -> Shown {
+        Shown {
+            label: LabelB { low: 0, high: 0, a },
+            seconds: false,
+        }
     }
 }
 
-// What is wrong with a label, if anything is.
-fn fault(output: Stdout, label: LabelB) {
-    let place = place(faults::of_label_b(label));
-    if place < 12 {
-        words::not_valid(output, place);
+impl From<LabelB> for Shown {
+    fn from(label: LabelB) -> Shown {
+        Shown {
+            label,
+            seconds: true,
+        }
     }
 }
 
-// The second of a label, where it is shown. It is the same in summer and in standard time.
-fn second(output: Stdout, label: LabelB, seconds: bool) {
-    if seconds {
-        words::seconds(output, label.second(), label.millisecond());
+impl Shown {
+    // The label in five octets or seven.
+    fn read(given: &[u8]) -> Shown {
+        match given.len() {
+            5 => LabelA::read(given).into(),
+            _ => LabelB::read(given).into(),
+        }
     }
-}
 
-// The time as the label says it.
-fn as_said(output: Stdout, label: LabelB, seconds: bool) {
-    let a = label.a;
-    let t = a.date_time();
-    words::when(
-        output,
-        2000 + t.year as u16,
-        t.month,
-        t.day,
-        t.hour,
-        t.minute,
-    );
-    second(output, label, seconds);
-}
-
-// The time of a valid label in standard time, by which labels are compared.
-fn standard(output: Stdout, label: LabelB, seconds: bool) {
-    let a = label.a;
-    let t = a.standard_time();
-    words::when(output, t.year, t.month, t.day, t.hour, t.minute);
-    second(output, label, seconds);
-    words::season(output, 0);
-}
-
-// Summer or standard time by SU, the highest bit of the hour's octet. What is not valid has no standard time.
-fn season(output: Stdout, label: LabelB, seconds: bool) {
-    let a = label.a;
-    if a.hour < 128 {
-        return words::season(output, 0);
+    // The second, where it is shown. It is the same in summer and in standard time.
+    fn second(self, voice: Voice) {
+        if self.seconds {
+            words::seconds(voice, self.label.second(), self.label.millisecond());
+        }
     }
-    if label.is_valid() {
-        words::season(output, 2);
-        return standard(output, label, seconds);
+
+    // The time as the label says it.
+    fn as_said(self, voice: Voice) {
+        let t = self.label.a.date_time();
+        let year = 2000 + u16::from(t.year);
+        words::when(voice, year, t.month, t.day, t.hour, t.minute);
+        self.second(voice);
     }
-    words::season(output, 1)
-}
 
-// A label inside something else: its time, and what is wrong with it.
-pub(crate) fn label(output: Stdout, label: LabelB, seconds: bool) {
-    as_said(output, label, seconds);
-    season(output, label, seconds);
-    fault(output, label);
-}
-
-fn at_minute(a: LabelA) -> LabelB {
-    LabelB { low: 0, high: 0, a }
-}
-
-pub(crate) fn label_a(output: Stdout, a: LabelA) {
-    label(output, at_minute(a), false);
-}
-
-// The label in five octets or seven.
-fn read(given: &[u8]) -> LabelB {
-    if given.len() == 5 {
-        return at_minute(LabelA::read(given));
+    // The time of a valid label in standard time, by which labels are compared.
+    fn in_standard_time(self, voice: Voice) {
+        let t = self.label.a.standard_time();
+        words::when(voice, t.year, t.month, t.day, t.hour, t.minute);
+        self.second(voice);
+        words::standard_time(voice);
     }
-    LabelB::read(given)
-}
 
-// A minute with its sign. One below 0 is counted from -1 on: so its size fits, whichever it is.
-fn valid(output: Stdout, minute: i64) {
-    if 0 <= minute {
-        return words::valid(output, 0, minute as u64);
+    // Summer or standard time by SU, the highest bit of the hour's octet. What is not valid has no standard time.
+    fn season(self, voice: Voice) {
+        if self.label.a.hour < 128 {
+            words::standard_time(voice);
+        } else if self.label.is_valid() {
+            words::summer_time_or(voice);
+            self.in_standard_time(voice);
+        } else {
+            words::summer_time(voice);
+        }
     }
-    words::valid(output, 1, (-1 - minute) as u64 + 1)
+
+    // What is wrong with it, if anything is.
+    fn fault(self, voice: Voice) {
+        if let Some(fault) = faults::of_label_b(self.label) {
+            words::not_valid(voice, fault);
+        }
+    }
+
+    // A label inside something else: its time, and what is wrong with it.
+    pub(crate) fn tell(self, voice: Voice) {
+        self.as_said(voice);
+        self.season(voice);
+        self.fault(voice);
+    }
 }
 
 // A label by itself: where it is valid, also its minute since 1 January 2000 00:00 in standard time, which is below 0 for a summer label in the first
 // hour of 2000.
-pub(crate) fn explain(output: Stdout, given: &[u8]) {
-    let read = read(given);
-    let a = read.a;
-    label(output, read, given.len() == 7);
-    if read.is_valid() {
-        valid(output, a.instant());
+pub(crate) fn explain(voice: Voice, given: &[u8]) {
+    let shown = Shown::read(given);
+    shown.tell(voice);
+    if shown.label.is_valid() {
+        words::valid(voice, shown.label.a.instant());
     }
 }
 
-fn order(first: LabelB, second: LabelB) -> u8
-    ensures { result < 3 }
-{
+// How two valid labels stand to each other.
+fn order(first: LabelB, second: LabelB) -> Ordering {
     if first.is_before(second) {
-        return 0;
+        Ordering::Less
+    } else if second.is_before(first) {
+        Ordering::Greater
+    } else {
+        Ordering::Equal
     }
-    if second.is_before(first) {
-        return 1;
-    }
-    2
 }
 
-// One of two labels that were to be compared, where it is not valid.
-fn unless_valid(output: Stdout, which: u8, label: LabelB)
-    requires { which < 2 }
-{
-    if label.is_valid() {
-        return;
+// One of two labels that were to be compared.
+#[derive(Clone, Copy)]
+pub enum Which {
+    First,
+    Second,
+}
+
+fn unless_valid(voice: Voice, which: Which, shown: Shown) {
+    if !shown.label.is_valid() {
+        voice.new_line();
+        voice.say(which);
+        shown.fault(voice);
     }
-    voice::line(output, 2);
-    words::which(output, which);
-    fault(output, label);
 }
 
 // Two labels a or two labels b, one behind the other. Where one is not valid none comes before the other.
-pub(crate) fn compare(output: Stdout, given: &[u8]) {
-    let half = given.len() / 2;
-    let first = read(octets::part(given, 0, half));
-    let second = read(octets::part(given, half, half));
-    if first.is_valid() {
-        if second.is_valid() {
-            return words::order(output, order(first, second));
-        }
+pub(crate) fn compare(voice: Voice, given: &[u8]) {
+    let (first, second) = given.split_at(given.len() / 2);
+    let first = Shown::read(first);
+    let second = Shown::read(second);
+    if first.label.is_valid() && second.label.is_valid() {
+        words::order(voice, Some(order(first.label, second.label)));
+    } else {
+        words::order(voice, None);
+        unless_valid(voice.indented(), Which::First, first);
+        unless_valid(voice.indented(), Which::Second, second);
     }
-    words::order(output, 3);
-    unless_valid(output, 0, first);
-    unless_valid(output, 1, second);
 }

@@ -1,8 +1,6 @@
 // Requests: a word, and what stands behind it in its line and in those in which it goes on: octets in hex, or a number, or nothing.
-ghost use Rattle.std.specs.Prelude.{◌<◌};
-
-use crate::lines::Sought;
-use crate::{lines, words};
+use crate::held::Held;
+use crate::lines;
 use profile::Profile;
 
 #[derive(Clone, Copy)]
@@ -28,7 +26,6 @@ pub enum Word {
     Profile,
     Characters,
     Why,
-    Unknown,
 }
 
 // What is expected of a request, where it is not as it should be.
@@ -52,467 +49,296 @@ pub enum Matter {
     ParityBit,
     Unpaired,
     TenBits,
-    Fine,
 }
 
-// What stands behind a word, as far as it is read: how many octets or numbers; the number; the figure that is read last, where a pair or a number
-// may go on with the next, and else `NONE`; what is the matter, and in which column, 0 where in none.
+// What is the matter with a request, and in which column of its line, if in one.
 #[derive(Clone, Copy)]
-pub struct Argument {
-    pub count: usize,
-    pub number: usize,
-    pub open: u8,
+pub struct Refusal {
     pub matter: Matter,
-    pub column: usize,
+    pub column: Option<usize>,
 }
 
-// What is to be done when a line is read.
+// A request as far as it is read: its number, if it has one, and the line that was read last. Its octets are held beside it.
+#[derive(Clone, Copy)]
+pub struct Request {
+    pub word: Word,
+    pub number: Option<u16>,
+    line: u64,
+}
+
+// What is to be done when a line is read. What is the matter is said with the line's number.
 #[derive(Clone, Copy)]
 pub enum Step {
     PassOn,
     Wait,
-    Complain,
-    Carry,
+    Complain(u64, Refusal),
+    Carry(Request),
     End,
 }
 
-// A request as far as its lines are read: the last one's number, whether another follows, and what is to be done.
+// How far the request is read that the next line goes on with: there is none; it is in order so far; it is not, which has been said.
 #[derive(Clone, Copy)]
-pub struct Request {
-    pub word: Word,
-    pub argument: Argument,
-    pub line: u64,
-    pub goes_on: bool,
-    pub step: Step,
+pub enum Progress {
+    Idle,
+    Within(Request),
+    Refused,
 }
 
-// No figure, which are those under 16.
-const NONE: u8 = 16;
+// ---- what stands behind a word ----
 
-fn word_at(n: u8) -> Word {
-    match n {
-        0 => Word::Label,
-        1 => Word::Compare,
-        2 => Word::Frame,
-        3 => Word::Message,
-        4 => Word::Image,
-        5 => Word::Clock,
-        6 => Word::Buffer,
-        7 => Word::PowerOn,
-        8 => Word::Session,
-        9 => Word::Octets,
-        10 => Word::Gap,
-        11 => Word::Run,
-        12 => Word::Ask,
-        13 => Word::Collect,
-        14 => Word::State,
-        15 => Word::Book,
-        16 => Word::Italian,
-        17 => Word::Event,
-        18 => Word::Profile,
-        19 => Word::Characters,
-        20 => Word::Why,
-        _ => Word::Unknown,
-    }
-}
-
-fn word_of(text: &[u8]) -> Word {
-    let mut n = 0;
-    while n < 21 {
-        if words::is_request(text, n) {
-            return word_at(n);
+impl Refusal {
+    // In the column of an index, or behind the end.
+    fn at(matter: Matter, index: usize) -> Refusal {
+        Refusal {
+            matter,
+            column: index.checked_add(1),
         }
-        n += 1;
     }
-    Word::Unknown
-}
 
-pub(crate) fn is_fine(matter: Matter) -> bool {
-    match matter {
-        Matter::Fine => true,
-        _ => false,
+    fn whole(matter: Matter) -> Refusal {
+        Refusal {
+            matter,
+            column: None,
+        }
     }
 }
 
-fn nothing_yet() -> Argument {
-    Argument {
-        count: 0,
-        number: 0,
-        open: NONE,
-        matter: Matter::Fine,
-        column: 0,
-    }
-}
-
-fn wrong(argument: Argument, matter: Matter, column: usize) -> Argument {
-    Argument {
-        count: argument.count,
-        number: argument.number,
-        open: NONE,
-        matter,
-        column,
-    }
-}
-
-fn with(argument: Argument, count: usize, number: usize, open: u8) -> Argument {
-    let matter = argument.matter;
-    Argument {
-        count,
-        number,
-        open,
-        matter,
-        column: argument.column,
-    }
-}
-
-fn figure(c: u8) -> u8 {
+fn figure(c: u8) -> Option<u8> {
     match c {
-        b'0'..=b'9' => c - 48,
-        b'A'..=b'F' => c - 55,
-        b'a'..=b'f' => c - 87,
-        _ => NONE,
+        b'0'..=b'9' => Some(c - b'0'),
+        b'A'..=b'F' => Some(c - b'A' + 10),
+        b'a'..=b'f' => Some(c - b'a' + 10),
+        _ => None,
     }
-}
-
-fn octet(high: u8, low: u8) -> u8 {
-    if high < 16 {
-        if low < 16 {
-            return high * 16 + low;
-        }
-    }
-    0
 }
 
 // The largest octet that may stand behind so many others. Every second octet of characters is a parity bit.
-fn largest(word: Word, count: usize) -> u8 {
+fn largest(word: Word, many: usize) -> u8 {
     match word {
-        Word::Characters => match count % 2 {
-            1 => 1,
-            _ => 255,
-        },
+        Word::Characters if many % 2 == 1 => 1,
         _ => 255,
     }
 }
 
-// A pair is read.
-fn pair(word: Word, argument: Argument, octet: u8, column: usize, given: &mut [u8]) -> Argument {
-    let count = argument.count;
-    if largest(word, count) < octet {
-        return wrong(argument, Matter::ParityBit, column);
+fn pair(word: Word, octet: u8, given: &mut Held) -> Result<(), Matter> {
+    if largest(word, given.octets().len()) < octet {
+        Err(Matter::ParityBit)
+    } else if given.push(octet) {
+        Ok(())
+    } else {
+        Err(Matter::TooMany)
     }
-    if octets::put(given, count, &[octet]) {
-        return with(argument, lines::one_more(count), 0, NONE);
-    }
-    wrong(argument, Matter::TooMany, column)
 }
 
-fn in_hex(word: Word, argument: Argument, c: u8, column: usize, given: &mut [u8]) -> Argument {
-    let low = figure(c);
-    let high = argument.open;
+// The figure that the next one makes a pair with, behind one more octet of a text.
+fn in_hex(word: Word, high: Option<u8>, c: u8, given: &mut Held) -> Result<Option<u8>, Matter> {
     if lines::is_blank(c) {
-        if high < NONE {
-            return wrong(argument, Matter::Half, column);
-        }
-        return argument;
+        return if high.is_some() {
+            Err(Matter::Half)
+        } else {
+            Ok(None)
+        };
     }
-    if low == NONE {
-        return wrong(argument, Matter::Figure, column);
-    }
-    if high < NONE {
-        return pair(word, argument, octet(high, low), column, given);
-    }
-    with(argument, argument.count, 0, low)
+    let low = figure(c).ok_or(Matter::Figure)?;
+    let Some(high) = high else {
+        return Ok(Some(low));
+    };
+    pair(word, high << 4 | low, given)?;
+    Ok(None)
 }
 
-// A number with one figure more, and what is the matter where it is too large.
-fn longer(argument: Argument, figure: u8, column: usize, matter: Matter) -> Argument {
-    let before = argument.number;
-    if 6553 < before {
-        return wrong(argument, matter, column);
+// The octets that stand in a text from an index on.
+fn octets(word: Word, text: &[u8], from: usize, given: &mut Held) -> Result<(), Refusal> {
+    let mut high = None;
+    for (index, c) in text.iter().enumerate().skip(from) {
+        high = in_hex(word, high, *c, given).map_err(|matter| Refusal::at(matter, index))?;
     }
-    let number = before * 10 + figure as usize;
-    if 65535 < number {
-        return wrong(argument, matter, column);
-    }
-    with(argument, 1, number, figure)
-}
-
-fn in_decimal(argument: Argument, c: u8, column: usize, matter: Matter) -> Argument {
-    let next = figure(c);
-    if lines::is_blank(c) {
-        return with(argument, argument.count, argument.number, NONE);
-    }
-    if 9 < next {
-        return wrong(argument, matter, column);
-    }
-    if argument.open == NONE {
-        if 0 < argument.count {
-            return wrong(argument, matter, column);
-        }
-    }
-    longer(argument, next, column, matter)
-}
-
-fn behind(argument: Argument, c: u8, column: usize) -> Argument {
-    if lines::is_blank(c) {
-        return argument;
-    }
-    wrong(argument, Matter::Behind, column)
-}
-
-fn further(word: Word, argument: Argument, c: u8, column: usize, given: &mut [u8]) -> Argument {
-    match word {
-        Word::Buffer => in_decimal(argument, c, column, Matter::Number),
-        Word::Session => in_decimal(argument, c, column, Matter::Number),
-        Word::Profile => in_decimal(argument, c, column, Matter::ProfileNumber),
-        Word::PowerOn => behind(argument, c, column),
-        Word::Gap => behind(argument, c, column),
-        Word::Collect => behind(argument, c, column),
-        Word::State => behind(argument, c, column),
-        Word::Unknown => wrong(argument, Matter::Word, 0),
-        _ => in_hex(word, argument, c, column, given),
+    match high {
+        Some(_) => Err(Refusal::at(Matter::Half, text.len())),
+        None => Ok(()),
     }
 }
 
-// One octet of the text; the first thing that is the matter stays.
-fn next(word: Word, argument: Argument, c: u8, column: usize, given: &mut [u8]) -> Argument {
-    let matter = argument.matter;
-    if is_fine(matter) {
-        return further(word, argument, c, column, given);
-    }
-    argument
-}
-
-// What stands in a text from a place on. The text's end counts as a blank.
-fn read_from(word: Word, before: Argument, text: &[u8], from: usize, given: &mut [u8]) -> Argument {
-    let mut now = before;
-    let mut i = from;
-    while i < text.len() {
-        now = next(word, now, text[i], lines::one_more(i), given);
-        i += 1;
-    }
-    next(word, now, b' ', lines::one_more(i), given)
-}
-
-fn unless(right: bool, matter: Matter) -> Matter {
-    if right {
-        return Matter::Fine;
-    }
-    matter
-}
-
-fn is_either(count: usize, one: usize, other: usize) -> bool {
-    if count == one {
-        return true;
-    }
-    count == other
-}
-
-fn is_from_to(count: usize, least: usize, most: usize) -> bool {
-    if count < least {
-        return false;
-    }
-    count <= most
-}
-
-// What is the matter with so many octets behind a word, or with a number or none.
-fn size_matter(word: Word, count: usize, number: usize) -> Matter {
-    match word {
-        Word::Label => unless(is_either(count, 5, 7), Matter::LabelSize),
-        Word::Compare => unless(is_either(count, 10, 14), Matter::CompareSize),
-        Word::Clock => unless(count == 7, Matter::ClockSize),
-        Word::Message => unless(is_from_to(count, 6, 252), Matter::MessageSize),
-        Word::Ask => unless(is_from_to(count, 1, 252), Matter::AskSize),
-        Word::Event => unless(count == 2, Matter::EventSize),
-        Word::Buffer => unless(count == 1, Matter::Number),
-        Word::Profile => unless(is_either(number, 10, 11), Matter::ProfileNumber),
-        Word::Characters => unless(count % 2 == 0, Matter::Unpaired),
-        _ => Matter::Fine,
+// A number with one figure more. One behind a blank, where the number is not open, would begin another number.
+fn longer(number: Option<u16>, open: bool, c: u8) -> Option<u16> {
+    let figure = u16::from(figure(c).filter(|figure| *figure < 10)?);
+    match number {
+        None => Some(figure),
+        Some(number) if open => number.checked_mul(10)?.checked_add(figure),
+        Some(_) => None,
     }
 }
 
-// A request that does not go on has to have the right number of octets, or the right number.
-fn sized(word: Word, argument: Argument, goes_on: bool) -> Argument {
-    let matter = argument.matter;
-    if goes_on {
-        return argument;
-    }
-    if is_fine(matter) {
-        return wrong(
-            argument,
-            size_matter(word, argument.count, argument.number),
-            0,
-        );
-    }
-    argument
-}
-
-// What is the matter is said once.
-fn step_after(was_fine: bool, matter: Matter, goes_on: bool) -> Step {
-    if was_fine {
-        if is_fine(matter) {
-            if goes_on {
-                return Step::Wait;
-            }
-            return Step::Carry;
-        }
-        return Step::Complain;
-    }
-    Step::Wait
-}
-
-fn extended(
-    word: Word,
-    before: Argument,
-    line: u64,
+// The number that stands in a text from an index on, or did before it.
+fn number(
+    before: Option<u16>,
     text: &[u8],
     from: usize,
-    given: &mut [u8],
-) -> Request {
-    let was = before.matter;
-    let goes_on = lines::goes_on(text);
-    let read = read_from(word, before, lines::unmarked(text), from, given);
-    let argument = sized(word, read, goes_on);
-    let matter = argument.matter;
-    Request {
-        word,
-        argument,
-        line,
-        goes_on,
-        step: step_after(is_fine(was), matter, goes_on),
+    matter: Matter,
+) -> Result<Option<u16>, Refusal> {
+    let mut number = before;
+    let mut open = false;
+    for (index, c) in text.iter().enumerate().skip(from) {
+        if lines::is_blank(*c) {
+            open = false;
+            continue;
+        }
+        let Some(next) = longer(number, open, *c) else {
+            return Err(Refusal::at(matter, index));
+        };
+        number = Some(next);
+        open = true;
+    }
+    Ok(number)
+}
+
+fn nothing(text: &[u8], from: usize) -> Result<(), Refusal> {
+    let mut behind = text.iter().enumerate().skip(from);
+    match behind.find(|(_, c)| !lines::is_blank(**c)) {
+        Some((index, _)) => Err(Refusal::at(Matter::Behind, index)),
+        None => Ok(()),
     }
 }
 
-fn begun(line: u64, text: &[u8], given: &mut [u8]) -> Request {
-    let own = lines::unmarked(text);
-    let from = lines::find(own, 0, Sought::Text);
-    let to = lines::find(own, from, Sought::Blank);
-    let word = word_of(lines::between(own, from, to));
-    extended(word, nothing_yet(), line, text, to, given)
-}
-
-// The request as it was, behind a line that is no part of it.
-fn passing(request: Request, step: Step) -> Request {
-    let word = request.word;
-    let argument = request.argument;
-    Request {
-        word,
-        argument,
-        line: request.line,
-        goes_on: request.goes_on,
-        step,
+impl Request {
+    // What stands in a text from an index on belongs to the request.
+    fn read(self, text: &[u8], from: usize, given: &mut Held) -> Result<Request, Refusal> {
+        let number = match self.word {
+            Word::Buffer | Word::Session => number(self.number, text, from, Matter::Number)?,
+            Word::Profile => number(self.number, text, from, Matter::ProfileNumber)?,
+            Word::PowerOn | Word::Gap | Word::Collect | Word::State => {
+                nothing(text, from)?;
+                None
+            }
+            _ => {
+                octets(self.word, text, from, given)?;
+                None
+            }
+        };
+        Ok(Request { number, ..self })
     }
-}
 
-// A request that is dropped, since its line is too long, the input ended before it did, or the profile has none.
-fn dropped(request: Request, matter: Matter, line: u64) -> Request {
-    let word = request.word;
-    let argument = request.argument;
-    Request {
-        word,
-        argument: wrong(argument, matter, 0),
-        line,
-        goes_on: false,
-        step: Step::Complain,
-    }
-}
-
-// Whether a profile has such a request: without parity bits there are no characters.
-fn is_of(word: Word, profile: Profile) -> bool {
-    match word {
-        Word::Characters => match profile {
-            Profile::Ten => false,
-            Profile::Eleven => true,
-        },
-        _ => true,
-    }
-}
-
-// What would be carried out is dropped where the profile has no such request.
-pub(crate) fn in_profile(request: Request, profile: Profile) -> Request {
-    let word = request.word;
-    let step = request.step;
-    if is_of(word, profile) {
-        return request;
-    }
-    match step {
-        Step::Carry => dropped(request, Matter::TenBits, request.line),
-        _ => request,
-    }
-}
-
-pub(crate) fn none() -> Request {
-    Request {
-        word: Word::Unknown,
-        argument: nothing_yet(),
-        line: 0,
-        goes_on: false,
-        step: Step::Wait,
-    }
-}
-
-// The next line is read: it is passed on, or a request begins in it or goes on.
-pub(crate) fn with_line(request: Request, number: u64, line: &[u8], given: &mut [u8]) -> Request {
-    let text = lines::said(line);
-    let word = request.word;
-    let argument = request.argument;
-    if text.len() == 0 {
-        return passing(request, Step::PassOn);
-    }
-    if request.goes_on {
-        return extended(word, argument, number, text, 0, given);
-    }
-    begun(number, text, given)
-}
-
-pub(crate) fn with_long_line(request: Request, number: u64) -> Request {
-    dropped(request, Matter::TooLong, number)
-}
-
-// No line is left. A request that was to go on is dropped, which is said unless something else was the matter.
-pub(crate) fn with_end(request: Request) -> Request {
-    let argument = request.argument;
-    let matter = argument.matter;
-    if request.goes_on {
-        if is_fine(matter) {
-            return dropped(request, Matter::Unended, request.line);
+    // A request whose last line is read has to have the right number of octets, or the right number. Without parity bits there are no characters.
+    fn ended(self, many: usize, profile: Profile) -> Result<Request, Refusal> {
+        let (right, matter) = match self.word {
+            Word::Label => (matches!(many, 5 | 7), Matter::LabelSize),
+            Word::Compare => (matches!(many, 10 | 14), Matter::CompareSize),
+            Word::Clock => (many == 7, Matter::ClockSize),
+            Word::Message => (matches!(many, 6..=252), Matter::MessageSize),
+            Word::Ask => (matches!(many, 1..=252), Matter::AskSize),
+            Word::Event => (many == 2, Matter::EventSize),
+            Word::Buffer => (self.number.is_some(), Matter::Number),
+            Word::Profile => (matches!(self.number, Some(10 | 11)), Matter::ProfileNumber),
+            Word::Characters if many % 2 == 1 => (false, Matter::Unpaired),
+            Word::Characters => (matches!(profile, Profile::Eleven), Matter::TenBits),
+            _ => return Ok(self),
+        };
+        if right {
+            Ok(self)
+        } else {
+            Err(Refusal::whole(matter))
         }
     }
-    passing(request, Step::End)
 }
 
-// The place of what is expected among the words; 18 where nothing else is.
-pub(crate) fn place(matter: Matter) -> u8
-    ensures { result < 19 }
-{
-    match matter {
-        Matter::Word => 0,
-        Matter::Figure => 1,
-        Matter::Half => 2,
-        Matter::TooMany => 3,
-        Matter::Number => 4,
-        Matter::Behind => 5,
-        Matter::LabelSize => 6,
-        Matter::CompareSize => 7,
-        Matter::ClockSize => 8,
-        Matter::MessageSize => 9,
-        Matter::AskSize => 10,
-        Matter::EventSize => 11,
-        Matter::TooLong => 12,
-        Matter::Unended => 13,
-        Matter::ProfileNumber => 14,
-        Matter::ParityBit => 15,
-        Matter::Unpaired => 16,
-        Matter::TenBits => 17,
-        Matter::Fine => 18,
+// ---- lines ----
+
+// A request begins in a line, whose text has its word first.
+fn begun(line: u64, text: &[u8], given: &mut Held) -> Result<Request, Refusal> {
+    let from = text
+        .iter()
+        .position(|c| !lines::is_blank(*c))
+        .unwrap_or(text.len());
+    let behind = &text[from..];
+    let size = behind
+        .iter()
+        .position(|c| lines::is_blank(*c))
+        .unwrap_or(behind.len());
+    let word = Word::of(&behind[..size]).ok_or(Refusal::whole(Matter::Word))?;
+    given.clear();
+    let request = Request {
+        word,
+        number: None,
+        line,
+    };
+    request.read(text, from + size, given)
+}
+
+impl Progress {
+    // The next line is read: it is passed on, or a request begins in it or goes on. A backslash ends a line in whose next one it is to go on.
+    pub(crate) fn line(
+        &mut self,
+        number: u64,
+        line: &[u8],
+        profile: Profile,
+        given: &mut Held,
+    ) -> Step {
+        let text = lines::said(line);
+        if text.is_empty() {
+            return Step::PassOn;
+        }
+        match text.strip_suffix(b"\\") {
+            Some(text) => self.goes_on(number, text, given),
+            None => self.ends(number, text, profile, given),
+        }
     }
-}
 
-// Whether a line may follow.
-pub(crate) fn is_going(request: Request) -> bool {
-    let step = request.step;
-    match step {
-        Step::End => false,
-        _ => true,
+    // The request with what stands in a line; none where it was refused before.
+    fn with(self, number: u64, text: &[u8], given: &mut Held) -> Option<Result<Request, Refusal>> {
+        match self {
+            Progress::Idle => Some(begun(number, text, given)),
+            Progress::Within(request) => {
+                let request = Request {
+                    line: number,
+                    ..request
+                };
+                Some(request.read(text, 0, given))
+            }
+            Progress::Refused => None,
+        }
+    }
+
+    fn goes_on(&mut self, number: u64, text: &[u8], given: &mut Held) -> Step {
+        match self.with(number, text, given) {
+            Some(Ok(request)) => {
+                *self = Progress::Within(request);
+                Step::Wait
+            }
+            Some(Err(refusal)) => {
+                *self = Progress::Refused;
+                Step::Complain(number, refusal)
+            }
+            None => Step::Wait,
+        }
+    }
+
+    fn ends(&mut self, number: u64, text: &[u8], profile: Profile, given: &mut Held) -> Step {
+        let read = self.with(number, text, given);
+        *self = Progress::Idle;
+        let Some(read) = read else {
+            return Step::Wait;
+        };
+        match read.and_then(|request| request.ended(given.octets().len(), profile)) {
+            Ok(request) => Step::Carry(request),
+            Err(refusal) => Step::Complain(number, refusal),
+        }
+    }
+
+    // A line that is too long: a request that was to go on is dropped.
+    pub(crate) fn long_line(&mut self, number: u64) -> Step {
+        *self = Progress::Idle;
+        Step::Complain(number, Refusal::whole(Matter::TooLong))
+    }
+
+    // No line is left. A request that was to go on is dropped, which is said unless something else was the matter.
+    pub(crate) fn end(&mut self) -> Step {
+        let before = *self;
+        *self = Progress::Idle;
+        match before {
+            Progress::Within(request) => {
+                Step::Complain(request.line, Refusal::whole(Matter::Unended))
+            }
+            _ => Step::End,
+        }
     }
 }

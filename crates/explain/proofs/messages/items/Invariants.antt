@@ -1,9 +1,0 @@
--- `items` names item after item.
--- Fewer are left each time. Assumes nothing.
-use Rattle.explain.proofs.messages.items.Given as goal
-
-abbrev pub invariant-loop-left : goal.invariant-loop-left
-invariant-loop-left l = Unit {0}
-
-abbrev pub decreases-loop-left : goal.decreases-loop-left
-decreases-loop-left l = l.left

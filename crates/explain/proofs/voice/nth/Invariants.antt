@@ -1,9 +1,0 @@
--- `nth` passes over so many words.
--- Fewer are left each time. Assumes nothing.
-use Rattle.explain.proofs.voice.nth.Given as goal
-
-abbrev pub invariant-loop-left : goal.invariant-loop-left
-invariant-loop-left l = Unit {0}
-
-abbrev pub decreases-loop-left : goal.decreases-loop-left
-decreases-loop-left l = l.left

@@ -1,0 +1,40 @@
+// Octets that are held: what a request gives, an image, a book.
+ghost use Rattle.std.specs.Prelude.{◌≤◌, length};
+
+// As many as the longest request gives.
+const ROOM: usize = 65600;
+
+// The first so many of them.
+#[derive(Clone, Copy)]
+pub struct Held {
+    octets: [u8; ROOM],
+    many: usize,
+    ghost fits: { many ≤ length octets },
+}
+
+impl Held {
+    pub(crate) fn new() -> Held {
+        Held {
+            octets: [0; ROOM],
+            many: 0,
+        }
+    }
+
+    pub(crate) fn octets(&self) -> &[u8] {
+        &self.octets[..self.many]
+    }
+
+    pub(crate) fn clear(&mut self) {
+        self.many = 0;
+    }
+
+    // One octet more is held, if there is room for it.
+    pub(crate) fn push(&mut self, octet: u8) -> bool {
+        let fits = self.many < self.octets.len();
+        if fits {
+            self.octets[self.many] = octet;
+            self.many += 1;
+        }
+        fits
+    }
+}
