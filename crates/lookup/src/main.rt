@@ -2,6 +2,7 @@
 
 // The look-up program: calls of the library of names from standard input, a line for each. second/README.md, "The look-up face". It only reads
 // (`stream`), calls (`names`) and writes (`stream`), and decides nothing.
+use octets::Number;
 use names::{Code, Found, Refusal};
 use std::fmt;
 use std::fmt::InlineText;
@@ -58,12 +59,12 @@ impl Stop {
 
 // A book's length, big-endian, behind the letter.
 fn length_in(read: &[u8]) -> usize {
-    octets::high_first_4(
+    u32::from_high_first([
         0,
         octets::octet_at(read, 1),
         octets::octet_at(read, 2),
         octets::octet_at(read, 3),
-    ) as usize
+    ]) as usize
 }
 
 // How many octets a call with a book has, as far as those read tell; one that is too long has no more than its length.

@@ -9,7 +9,7 @@ ghost use Rattle.message.specs.Mirror.{mirror, pn_bit, mirror_of};
 
 use address::PointAddress;
 use label::{LabelA, LabelB};
-use octets::Kept;
+use octets::{Kept, Number};
 
 // What the first six octets of a message say.
 #[derive(Clone, Copy)]
@@ -195,12 +195,12 @@ fn label_at(m: &[u8], at: usize) -> LabelA
 fn password_of(m: &[u8]) -> u32
     ensures { result ≡ (request_of m.now).password }
 {
-    octets::low_first_4(
+    u32::from_low_first([
         octets::octet_at(m, 6),
         octets::octet_at(m, 7),
         octets::octet_at(m, 8),
         octets::octet_at(m, 9),
-    )
+    ])
 }
 
 impl ObjectRange {
@@ -246,10 +246,10 @@ impl Header {
             type_id: octets::octet_at(m, 0),
             structure: octets::octet_at(m, 1),
             cause: octets::octet_at(m, 2),
-            point: PointAddress(octets::low_first_2(
+            point: PointAddress(u16::from_low_first([
                 octets::octet_at(m, 3),
                 octets::octet_at(m, 4),
-            )),
+            ])),
             record_address: octets::octet_at(m, 5),
         }
     }
@@ -257,7 +257,7 @@ impl Header {
     pub fn octets(self) -> [u8; 6]
         ensures { result ≡ header_octets self }
     {
-        let point = octets::low_octets_2(self.point.0);
+        let point = self.point.0.low_octets();
         [
             self.type_id,
             self.structure,

@@ -6,4 +6,4 @@ use Rattle.message.proofs.Header.octets.Goals as goal
 
 pub returns : goal.returns
 unfolding header_octets low_octets
-returns c = rw c.low_octets_2-point.ensures
+returns c = rw c.low_octets-point.ensures
