@@ -20,7 +20,7 @@ import sys
 from edits import read_edits
 from programs import ROOT
 from slips import TABLE as SLIPS, rests_on
-from sources import clauses, functions
+from sources import clauses, functions, impls
 
 CRATES, CONTRACTS, READING = ROOT / "crates", ROOT / "docs" / "CONTRACTS.md", ROOT / "docs" / "READING.md"
 README, WHY, STORED = ROOT / "README.md", ROOT / "docs" / "WHY.md", CRATES / "explain"
@@ -82,7 +82,13 @@ def read_theorems(crate, calls, errors):
     if not file.exists():
         return
     text = file.read_text(encoding="utf8")
-    functions = {alias: path.replace(".", "::") for path, alias in re.findall(r"^use \S+?\.proofs\.(\S+)\.Reads as (\S+)$", text, re.M)}
+    owners = {}
+    for source_file in sorted((CRATES / crate / "src").glob("*.rt")):
+        owners.update((proved, of) for of, proved in impls(source_file.read_text(encoding="utf8").splitlines()))
+    functions = {}
+    for path, alias in re.findall(r"^use \S+?\.proofs\.(\S+)\.Reads as (\S+)$", text, re.M):
+        owner, dot, name = path.rpartition(".")
+        functions[alias] = f"{owners.get(owner, owner)}::{name}" if dot else name
     for says, name, of in commented(text):
         if found := re.search(r"RuledOut.*?\(([\w-]+)\.Post", of, re.S):
             call = calls.get(functions.get(found.group(1)))
@@ -215,27 +221,24 @@ def spoken(function):
     return dict(re.findall(r'Rule::(\w+) => \{?\s*"(.*)"', body))
 
 
-def rule_words():
-    """The words of the rules: a table in which each takes as much room, and of each so many letters count."""
-    text = source("why", "lib.rt")
-    width = int(re.search(r"^const WIDTH: usize = (\d+);$", text, re.M).group(1))
-    words = re.search(r'^const WORDS: \[u8; \d+\] =\s+\*b"(.*)";$', text, re.M).group(1)
-    letters = re.search(r"^const LETTERS: \[u8; \d+\] = \[(.*)\];$", text, re.M).group(1).split(", ")
-    return [words[at * width:][:int(many)] for at, many in enumerate(letters)]
-
-
 def by_rule(crate, function):
-    """What a function answers to each rule; `_` stands for all others."""
-    body = source(crate, "lib.rt").partition(f"pub fn {function}(")[2].partition("fn ")[0]
-    return dict(re.findall(r"(?:Rule::)?(\w+) => (\w+),", body))
+    """What a function of a crate answers to each rule, arm by arm; `_` stands for all others."""
+    body = source(crate, "lib.rt").partition(f"fn {function}(")[2].partition("\n}\n")[0].partition("fn ")[0]
+    arms = re.findall(r"^ *((?:\| )?(?:Rule::\w+(?:\s*\| )?)+|_) =>\s*([^,]+),$", body, re.M)
+    return {rule: answer for rules, answer in arms for rule in re.findall(r"Rule::(\w+)|_", rules) or ["_"]}
+
+
+def rule_words():
+    """The word of each rule."""
+    return {rule: word.removeprefix('b"').removesuffix('"') for rule, word in by_rule("why", "word").items()}
 
 
 def refusal(rule):
     """The cause and the P/N of the mirror that a rule gives; an accepted message is not refused."""
     if rule == "Accepted":
         return "-", "-"
-    pn = by_rule("rules", "pn")
-    return by_rule("rules", "cause")[rule], "1" if pn.get(rule, pn["_"]) == "true" else "0"
+    one = re.search(r"fn pn\(self\).*?matches!\(self, (.*?)\)", source("rules", "lib.rt"), re.S).group(1)
+    return by_rule("rules", "cause")[rule], "1" if rule in re.findall(r"Rule::(\w+)", one) else "0"
 
 
 def why(text, _, errors):
@@ -246,8 +249,8 @@ def why(text, _, errors):
         return text
     rows = ["| No. | Rule | Word | Cause | P/N | What to look at |", "|---|---|---|---|---|---|"]
     for rule, place in sorted(places.items(), key=lambda pair: int(pair[1])):
-        at, (cause, pn) = int(place) - 1, refusal(rule)
-        rows.append(f"| {place} | {names[rule]} | `{words[at]}` | {cause} | {pn} | {looks[rule] or '-'} |")
+        cause, pn = refusal(rule)
+        rows.append(f"| {place} | {names[rule]} | `{words[rule]}` | {cause} | {pn} | {looks[rule] or '-'} |")
     written, tables = re.subn(r"<!--rules-->.*?<!---->", lambda _: "\n".join(["<!--rules-->", *rows, "<!---->"]), text, flags=re.S)
     if tables != 1:
         errors.append(f"docs/WHY.md: {tables} tables of rules")

@@ -6,16 +6,32 @@ import re
 CLAUSE = re.compile(r"\b(requires|ensures|decreases)\*?(?: \w+)? \{")
 
 
+# The head of an impl of a trait: the trait, its parameters, and the type.
+IMPL = re.compile(r"impl(?:<[^>]*>)? (\w+)(?:<([^>]*)>)? for (\w+)(?:<[^>]*>)? \{")
+
+
+def impls(lines):
+    """(type, the name under which its proofs stand) of each impl of a public trait of these lines: `u16` and `U16Number2`."""
+    traits = {found.group(1) for line in lines if (found := re.match(r"pub trait (\w+)", line))}
+    for line in lines:
+        if (found := IMPL.match(line)) and found.group(1) in traits:
+            trait, parameters, of = found.groups()
+            yield of, of[0].upper() + of[1:] + trait + re.sub(r"\W", "", parameters or "")
+
+
 def functions(lines):
-    """(name, line number from 0, whether it is public) of each function; a method is `Type::name`."""
-    owner = ""
+    """(name, line number from 0, whether it is public) of each function; a method is `Type::name`, and one of a public trait is public."""
+    traits = {found.group(1) for line in lines if (found := re.match(r"pub trait (\w+)", line))}
+    owner, public = "", False
     for at, line in enumerate(lines):
-        if found := re.match(r"impl (\w+) \{", line):
+        if found := IMPL.match(line):
+            owner, public = found.group(3) + "::", found.group(1) in traits
+        elif found := re.match(r"impl(?:<[^>]*>)? (\w+)(?:<[^>]*>)? \{", line):
             owner = found.group(1) + "::"
         elif line == "}":
-            owner = ""
+            owner, public = "", False
         elif found := re.match(r"\s*(pub )?(?:pub\(crate\) )?(?:extern \"C\" )?fn (\w+)", line):
-            yield owner + found.group(2), at, bool(found.group(1))
+            yield owner + found.group(2), at, public or bool(found.group(1))
 
 
 def body_at(lines, at):
