@@ -103,7 +103,7 @@ fn time_fault(time: DateTime) -> Option<LabelFault>
     }
 }
 
-// The first part of a label a that is wrong.
+// The first part of a label a that is wrong. A bit is looked at by division, as its definition looks at it.
 #[tactic(auto, unfolding(crate::specs::Labels::label_fault_a))]
 pub fn of_label_a(label: LabelA) -> Option<LabelFault>
     ensures { result ≡ label_fault_a label }
@@ -200,6 +200,8 @@ fn point_rule(kind: u8, points: usize, known: bool) -> Option<ImageRule>
 }
 
 // Where a walk over the records stands: how many are passed, how many of them are points, where the last of them stands, and the place behind it.
+// The image is lent beside it, as the definitions have it; and that a whole record stands there is asked of callers, since the walk also stands
+// at the records' end.
 #[derive(Clone, Copy)]
 struct Walk {
     passed: usize,

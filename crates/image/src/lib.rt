@@ -216,7 +216,7 @@ impl Series for Events {
         label.moment()
     }
 
-    // Events may be equal: in one minute the milliseconds decide.
+    // Events may be equal: in one minute the milliseconds decide. No pairs are compared, so that in another minute they are not worked out.
     fn may_follow(last: LabelB, minute: i64, label: LabelB, now: i64) -> bool {
         now > minute || now == minute && last.in_minute() <= label.in_minute()
     }
