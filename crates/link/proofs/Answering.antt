@@ -1,7 +1,10 @@
 -- The ways in which a frame is answered: reset, status, not reset, repeated, NACK, carried out, given, nothing to give.
 -- By the tests of the definition, one after the other. Assumes nothing.
+use Rattle.std.specs.Bool.{MatchBool}
 use Prim.Native.Nat.{ℕ}
-use mathlib.Core.Bool.{true, false, not, ◌||◌}
+use mathlib.Core.Bool.{Bool, true, false, not, ◌||◌}
+use Rattle.octets.specs.Choice.{when◌then◌else◌}
+use Rattle.link.specs.working.Counting.{IsCounted}
 use mathlib.Core.List.{List}
 use mathlib.Core.Path.{◌≡◌, refl, ap}
 use native.Mathlib.Omega.{arith}
@@ -19,7 +22,7 @@ use Rattle.frame.specs.Writing.{plain}
 use Rattle.fields.specs.Answers.{identity_found}
 use Rattle.deeds.specs.declared.Order.TheVariants.{NoOrder}
 use Rattle.deeds.specs.Deeds.{is_waiting, carried_out}
-use Rattle.waiting.specs.NextReply.{next_of}
+use Rattle.waiting.specs.NextReply.{next_of, is_given, message_in}
 use Rattle.link.specs.declared.Link.{Link}
 use Rattle.link.specs.declared.Sends.{Sends}
 use Rattle.link.specs.declared.Sends.TheVariants.{NotReset, Remembered, Status}
@@ -47,6 +50,21 @@ module _ (bit : ℕ) (link : Link) (afresh : Answered) where
   unfolding counted
   with_new r n = rw (r, ne_eqb bit link.fcb n)
 
+-- what is told by a relation comes to what is counted, where the relation leaves one answer
+pub is_counted : (bit : ℕ) (link : Link) {Afresh : Answered → Type 0} {answer : Answered} (afresh : Answered) → IsCounted bit link Afresh answer
+    → ((x : Answered) → Afresh x → x ≡ afresh) → answer ≡ counted bit link afresh
+unfolding counted IsCounted
+is_counted bit link {Afresh = Afresh} {answer = answer} afresh c one = by_reset link.reset c
+  where
+    by_bit : (t : Bool) → MatchBool t (answer ≡ answered_by Remembered link) (Afresh answer) → answer ≡ (when t then answered_by Remembered link else afresh)
+    by_bit true e = e
+    by_bit false a = one answer a
+
+    by_reset : (t : Bool) → MatchBool t (MatchBool (eqb bit link.fcb) (answer ≡ answered_by Remembered link) (Afresh answer)) (answer ≡ answered_by NotReset link)
+        → answer ≡ (when not t then answered_by NotReset link else when eqb bit link.fcb then answered_by Remembered link else afresh)
+    by_reset true c = by_bit (eqb bit link.fcb) c
+    by_reset false e = e
+
 -- a new FCB, after a reset
 pub record Fresh (link : Link) (bit : ℕ) : Type 0 where
   pub is_reset : link.reset ≡ true
@@ -65,11 +83,11 @@ module _ (link : Link) (user : Kept) (image clock : List ℕ) where
     as_nack : {bit : ℕ} → Fresh link bit → (is_waiting link.pending.waiting || ltb user.length 6) ≡ true → Way (UserData bit) (noted bit (plain Nack address) link)
     carried_out_law : {bit : ℕ} → Fresh link bit → (is_waiting link.pending.waiting || ltb user.length 6) ≡ false
         → Way (UserData bit) (carried address bit link (carried_out link.session image clock user))
-    as_given : {bit : ℕ} → Fresh link bit → (next_of link.pending image).found ≡ true
+    as_given : {bit : ℕ} → Fresh link bit → (is_given (next_of link.pending image)) ≡ true
         → Way (Collection bit)
         (answered_by Remembered
-        (after_new bit (data_reply (next_of link.pending image).message address) link.session (next_of link.pending image).pending link))
-    nothing_given : {bit : ℕ} → Fresh link bit → (next_of link.pending image).found ≡ false
+        (after_new bit (data_reply (message_in (next_of link.pending image)) address) link.session (next_of link.pending image).pending link))
+    nothing_given : {bit : ℕ} → Fresh link bit → (is_given (next_of link.pending image)) ≡ false
         → Way (Collection bit) (noted bit (plain NothingToGive address) link)
 
   of_counted : {asked : Service} {bit : ℕ} (afresh : Answered) → Counts asked bit → (Fresh link bit → Way asked afresh) → Way asked (counted bit link afresh)
@@ -88,7 +106,7 @@ module _ (link : Link) (user : Kept) (image clock : List ℕ) where
       of_counted _ user_data_law (λ fresh.
       either (Way (UserData bit)) (is_waiting link.pending.waiting || ltb user.length 6) (as_nack fresh) (carried_out_law fresh))
   way (Collection bit) =
-      of_counted _ collects (λ fresh. either (Way (Collection bit)) (next_of link.pending image).found (as_given fresh) (nothing_given fresh))
+      of_counted _ collects (λ fresh. either (Way (Collection bit)) (is_given (next_of link.pending image)) (as_given fresh) (nothing_given fresh))
 
 -- what answered user data or collection leaves: its FCB is the last, and the reply that is sent is the remembered one
 pub record Noted (bit : ℕ) (a : Answered) : Type 0 where

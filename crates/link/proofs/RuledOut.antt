@@ -26,7 +26,7 @@ use Rattle.deeds.specs.declared.Order.TheVariants.{NoOrder}
 use Rattle.deeds.specs.declared.Carried.{Carried}
 use Rattle.deeds.specs.Deeds.{is_waiting, carried_out, nothing_pending}
 use Rattle.waiting.specs.declared.Next.{Next}
-use Rattle.waiting.specs.NextReply.{nothing_found, next_of}
+use Rattle.waiting.specs.NextReply.{nothing_found, next_of, is_given, message_in}
 use Rattle.link.specs.declared.Link.{Link}
 use Rattle.link.specs.declared.Sends.TheVariants.{NotReset, Remembered, Status}
 use Rattle.link.specs.declared.Answered.{Answered}
@@ -262,14 +262,14 @@ module _ (κs : Lfts 1) (x : Place) (link : Link) (user : Kept) (image clock : L
     answer_collection_nothing idle gives s p = omega (arith, ap control (rw idle at (p ∙ collected)))
 
     -- a reply waits
-    module _ (waits : next.found ≡ true) where
+    module _ (waits : is_given next ≡ true) where
       -- 09 where a reply waits
       answer_collection_found : control wrong ≡ 0x09 → RuledOut (answer.Post κs) (asking (Collection bit)) wrong
       unfolding given noted answered_by after_new
       answer_collection_found none s p = omega (arith, ap control (rw waits at (p ∙ collected)))
 
       -- another message given than the next that waits
-      answer_collection_message : ((reply wrong).user ≡ next.message → ⊥) → RuledOut (answer.Post κs) (asking (Collection bit)) wrong
+      answer_collection_message : ((reply wrong).user ≡ (message_in next) → ⊥) → RuledOut (answer.Post κs) (asking (Collection bit)) wrong
       unfolding given noted answered_by after_new
       answer_collection_message other s p = other (ap (λ (a : Answered). (reply a).user) (rw waits at (p ∙ collected)))
 

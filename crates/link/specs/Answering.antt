@@ -16,7 +16,7 @@ use Rattle.deeds.specs.declared.Order.TheVariants as order
 use Rattle.deeds.specs.declared.Carried.{Carried}
 use Rattle.deeds.specs.Deeds.{is_waiting, carried_out}
 use Rattle.waiting.specs.declared.Next.{Next}
-use Rattle.waiting.specs.NextReply.{next_of}
+use Rattle.waiting.specs.NextReply.{next_of, is_given, message_in}
 use Rattle.link.specs.declared.Link.{Link}
 use Rattle.link.specs.declared.Sends.{Sends}
 use Rattle.link.specs.declared.Sends.TheVariants.{NotReset, Remembered, Status}
@@ -56,7 +56,7 @@ user_data address bit link request image clock =
 -- function 11 gives the next waiting reply, or 09
 unfoldable pub given : LinkAddress → ℕ → Link → Next → Answered
 given address bit link next =
-    when next.found then answered_by Remembered (after_new bit (data_reply next.message address) link.session next.pending link) else
+    when is_given next then answered_by Remembered (after_new bit (data_reply (message_in next) address) link.session next.pending link) else
     noted bit (plain NothingToGive address) link
 
 unfoldable pub collection : LinkAddress → ℕ → Link → List ℕ → Answered

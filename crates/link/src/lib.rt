@@ -2,7 +2,8 @@
 // The link and the session: a sound frame for this card is answered.
 ghost use Rattle.std.specs.Prelude.{◌≡◌};
 ghost use Rattle.link.specs.State.{data_reply, power_on, after_reset, after_new};
-ghost use Rattle.link.specs.Answering.{link_in, answered_by, noted, carried, user_data, given, collection, counted, answered};
+ghost use Rattle.link.specs.working.Counting.{IsCounted};
+ghost use Rattle.link.specs.Answering.{link_in, answered_by, noted, carried, user_data, given, collection, answered};
 
 use address::LinkAddress;
 use deeds::{Carried, Order, Pending};
@@ -60,6 +61,7 @@ fn link_in(found: Option<Identity>) -> LinkAddress
 }
 
 // Without an order to the meter.
+#[tactic(auto, unfolding(crate::specs::Answering::answered_by))]
 fn answered_by(sends: Sends, link: Link) -> Answered
     ensures { result ≡ answered_by sends link }
 {
@@ -73,6 +75,7 @@ fn answered_by(sends: Sends, link: Link) -> Answered
 
 impl Link {
     // Not reset, no session, nothing waiting.
+    #[tactic(auto, unfolding(crate::specs::State::power_on))]
     pub fn power_on() -> Link
         ensures { result ≡ power_on }
     {
@@ -85,36 +88,40 @@ impl Link {
         }
     }
 
+    #[tactic(auto, unfolding(crate::specs::State::after_reset, crate::specs::State::power_on))]
     fn after_reset(reply: Reply) -> Link
         ensures { result ≡ after_reset reply }
     {
         Link {
             reset: true,
-            fcb: 0,
-            session: Session::Closed,
             remembered: reply,
-            pending: Pending::new(),
+            ..Link::power_on()
         }
     }
 
+    #[tactic(auto, unfolding(crate::specs::State::after_new))]
     fn after_new(self, bit: u8, reply: Reply, session: Session, pending: Pending) -> Link
         ensures { result ≡ after_new bit reply session pending self }
     {
         Link {
-            reset: self.reset,
             fcb: bit,
             session,
             remembered: reply,
             pending,
+            ..self
         }
     }
 
     // A reply that becomes the remembered one, with nothing carried out.
+    #[tactic(auto, unfolding(crate::specs::Answering::noted))]
     fn noted(self, bit: u8, reply: Reply) -> Answered
         ensures { result ≡ noted bit reply self }
     {
-        let session = self.session;
-        let pending = self.pending;
+        let Link {
+            session,
+            pending,
+            ..
+        } = self;
         answered_by(
             Sends::Remembered,
             self.after_new(bit, reply, session, pending),
@@ -122,13 +129,17 @@ impl Link {
     }
 
     // ACK, and the message is carried out.
+    #[tactic(auto, unfolding(crate::specs::Answering::carried))]
     fn carried(self, address: LinkAddress, bit: u8, done: Carried) -> Answered
         ensures { result ≡ carried address bit self done }
     {
-        let order = done.order;
-        let time = done.time;
-        let session = done.session;
-        let pending = done.pending;
+        let Carried {
+            order,
+            time,
+            session,
+            pending,
+            ..
+        } = done;
         Answered {
             sends: Sends::Remembered,
             order,
@@ -137,6 +148,7 @@ impl Link {
         }
     }
 
+    #[tactic(auto, unfolding(crate::specs::Answering::user_data))]
     fn user_data(
         self,
         address: LinkAddress,
@@ -147,80 +159,56 @@ impl Link {
     ) -> Answered
         ensures { result ≡ user_data address bit self request image.now clock }
     {
-        let pending = self.pending;
-        let session = self.session;
-        if pending.is_waiting() {
-            return self.noted(bit, Reply::plain(Control::Nack, address));
+        if self.pending.is_waiting() || request.length < Header::OCTETS {
+            self.noted(bit, Reply::plain(Control::Nack, address))
+        } else {
+            self.carried(
+                address,
+                bit,
+                deeds::carry_out(self.session, image, clock, request),
+            )
         }
-        if request.length < Header::OCTETS {
-            return self.noted(bit, Reply::plain(Control::Nack, address));
-        }
-        self.carried(
-            address,
-            bit,
-            deeds::carry_out(session, image, clock, request),
-        )
     }
 
+    #[tactic(auto, unfolding(crate::specs::Answering::given))]
     fn given(self, address: LinkAddress, bit: u8, next: Next) -> Answered
         ensures { result ≡ given address bit self next }
     {
-        let found = next.found;
-        let message = next.message;
         let pending = next.pending;
         let session = self.session;
-        if found {
-            return answered_by(
+        match next.message {
+            Some(message) => answered_by(
                 Sends::Remembered,
                 self.after_new(bit, data_reply(message, address), session, pending),
-            );
+            ),
+            None => self.noted(bit, Reply::plain(Control::NothingToGive, address)),
         }
-        self.noted(bit, Reply::plain(Control::NothingToGive, address))
     }
 
+    #[tactic(auto, unfolding(crate::specs::Answering::collection))]
     fn collection(self, address: LinkAddress, bit: u8, image: &[u8]) -> Answered
         ensures { result ≡ collection address bit self image.now }
     {
-        let pending = self.pending;
-        self.given(address, bit, waiting::next_reply(pending, image))
+        self.given(address, bit, waiting::next_reply(self.pending, image))
     }
 
-    // User data by its FCB: the message is looked at only where it is new.
-    fn counted_data(
-        self,
-        address: LinkAddress,
-        bit: u8,
-        request: Kept,
-        image: &[u8],
-        clock: [u8; 7],
-    ) -> Answered
-        ensures { result ≡ counted bit self (user_data address bit self request image.now clock) }
+    // User data and collections by their FCB: what is done afresh is done only where it is new.
+    #[tactic(auto, unfolding(crate::specs::working::Counting::IsCounted))]
+    fn counted<F: FnOnce() -> Answered>(self, bit: u8, afresh: F) -> Answered
+        requires { F.pre afresh }
+        ensures { IsCounted bit self (F.post afresh) result }
     {
-        let reset = self.reset;
-        if reset {
-            if bit == self.fcb {
-                return answered_by(Sends::Remembered, self);
-            }
-            return self.user_data(address, bit, request, image, clock);
+        if !self.reset {
+            answered_by(Sends::NotReset, self)
+        } else if bit == self.fcb {
+            answered_by(Sends::Remembered, self)
+        } else {
+            afresh()
         }
-        answered_by(Sends::NotReset, self)
-    }
-
-    // And a collection.
-    fn counted_collection(self, address: LinkAddress, bit: u8, image: &[u8]) -> Answered
-        ensures { result ≡ counted bit self (collection address bit self image.now) }
-    {
-        let reset = self.reset;
-        if reset {
-            if bit == self.fcb {
-                return answered_by(Sends::Remembered, self);
-            }
-            return self.collection(address, bit, image);
-        }
-        answered_by(Sends::NotReset, self)
     }
 
     // A frame that is for this card is answered.
+    #[tactic(auto, unfolding(crate::specs::Answering::answered))]
     pub fn answer(self, service: Service, user: Kept, image: &[u8], clock: [u8; 7]) -> Answered
         ensures { result ≡ answered self service user image.now clock }
     {
@@ -230,9 +218,13 @@ impl Link {
                 Sends::Remembered,
                 Link::after_reset(Reply::plain(Control::Ack, address)),
             ),
-            Service::UserData(bit) => self.counted_data(address, bit, user, image, clock),
+            Service::UserData(bit) => {
+                self.counted(bit, || self.user_data(address, bit, user, image, clock))
+            }
             Service::Status => answered_by(Sends::Status(address), self),
-            Service::Collection(bit) => self.counted_collection(address, bit, image),
+            Service::Collection(bit) => {
+                self.counted(bit, || self.collection(address, bit, image))
+            }
         }
     }
 }

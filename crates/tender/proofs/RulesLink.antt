@@ -19,7 +19,7 @@ use Rattle.deeds.specs.declared.Pending.{Pending}
 use Rattle.deeds.specs.declared.Order.{Order}
 use Rattle.deeds.specs.declared.Order.TheVariants as order
 use Rattle.waiting.proofs.Found.{found_waiting}
-use Rattle.waiting.specs.NextReply.{next_of}
+use Rattle.waiting.specs.NextReply.{next_of, is_given, message_in}
 use Rattle.link.specs.declared.Link.{Link}
 use Rattle.link.specs.declared.Sends.TheVariants.{NotReset, Remembered}
 use Rattle.link.specs.declared.Answered.{Answered}
@@ -139,7 +139,7 @@ new_data card loan user bit f =
 
 -- a collection with a new FCB
 module _ {card : Card} {loan : Loan} {user : Kept} {bit : ℕ} (f : Afresh card loan (Collection bit) user bit) where
-  found : (next_at card loan).found ≡ replies_wait card
+  found : (is_given (next_at card loan)) ≡ replies_wait card
   unfolding next_of
   found = found_waiting card.link.pending.request card.link.pending.clock loan.image card.link.pending.waiting
 
@@ -164,7 +164,7 @@ pub new_collection : NewCollection our_gap
 new_collection card loan user bit f =
     record {
       nothing_if = none_given f;
-      nothing_only_if = λ r. by_value (replies_wait card) (λ t. absurd (nothing_not_data (next_at card loan).message r (next_given f t).replies)) (λ t. t);
+      nothing_only_if = λ r. by_value (replies_wait card) (λ t. absurd (nothing_not_data (message_in (next_at card loan)) r (next_given f t).replies)) (λ t. t);
       else_next = next_given f;
     }
 

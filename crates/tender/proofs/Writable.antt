@@ -33,7 +33,7 @@ use Rattle.collector.specs.declared.Collector.{Collector}
 use Rattle.collector.specs.Collecting.{is_overfull, run_of, verdict_of}
 use Rattle.link.specs.declared.Link.{Link}
 use Rattle.link.specs.declared.Answered.{Answered}
-use Rattle.waiting.specs.NextReply.{next_of}
+use Rattle.waiting.specs.NextReply.{next_of, message_in}
 use Rattle.link.specs.State.{data_reply, power_on, after_reset, after_new}
 use Rattle.link.specs.Answering.{link_in, answered_by, noted, carried, answered, reply_sent}
 use Rattle.link.proofs.Answering.{Way, as_reset, as_status, not_reset, repeated, as_nack, carried_out_law, as_given, nothing_given, way}
@@ -120,7 +120,7 @@ module _ (link : Link) (ready : Ready link) (user : Kept) (short : Short user) (
       record { reply = ours control.Ack; link = record { remembered = ours control.Ack; pending = carried_kept link.session image clock user seven short } }
   way_ready (as_given fresh f) =
       let next = next_short link.pending image ready.pending in
-      let can : CanWrite (data_reply (next_of link.pending image).message (link_in (identity_found image))) =
+      let can : CanWrite (data_reply (message_in (next_of link.pending image)) (link_in (identity_found image))) =
       record { address = image_address image octets; users = next.message } in
       record { reply = can; link = record { remembered = can; pending = next.pending } }
   way_ready (nothing_given fresh f) =

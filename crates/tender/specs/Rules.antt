@@ -38,7 +38,7 @@ use Rattle.deeds.specs.declared.Pending.{Pending}
 use Rattle.deeds.specs.declared.Carried.{Carried}
 use Rattle.deeds.specs.Deeds.{carried_out, nothing_pending, is_waiting}
 use Rattle.waiting.specs.declared.Next.{Next}
-use Rattle.waiting.specs.NextReply.{data_from, next_of}
+use Rattle.waiting.specs.NextReply.{data_from, next_of, message_in}
 use Rattle.waiting.specs.Collected.{messages_collected, in_groups, events_message, reading_message}
 use Rattle.link.specs.declared.Link.{Link}
 use Rattle.link.specs.State.{data_reply}
@@ -164,7 +164,7 @@ abbrev pub next_at : Card → Loan → Next
 next_at card loan = next_of card.link.pending loan.image
 
 abbrev pub reply_at : Card → Loan → Reply
-reply_at card loan = data_reply (next_at card loan).message (own_address loan)
+reply_at card loan = data_reply (message_in (next_at card loan)) (own_address loan)
 
 -- "Function 11 gives the next waiting reply, or 09."
 pub record Collects (card : Card) (loan : Loan) (bit : ℕ) (x : Stepped Card Seen) : Type 0 where

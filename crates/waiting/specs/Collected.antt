@@ -8,14 +8,14 @@ use Rattle.octets.specs.Keeping.{kept_of}
 use Rattle.message.specs.declared.ObjectRange.{ObjectRange}
 use Rattle.data.specs.Messages.{reading_reply, events_reply}
 use Rattle.deeds.specs.declared.Pending.{Pending}
-use Rattle.waiting.specs.NextReply.{next_of}
+use Rattle.waiting.specs.NextReply.{next_of, is_given, message_in}
 
 -- the messages that so many collections give; the list ends where nothing waits
 unfoldable pub messages_collected : ℕ → Pending → List ℕ → List Kept
 messages_collected zero pending image = []
 messages_collected (suc turns) pending image =
     let next = next_of pending image in
-    when next.found then next.message ∷ messages_collected turns next.pending image else []
+    when is_given next then message_in next ∷ messages_collected turns next.pending image else []
 
 -- so many groups at most: the first `size` records, then the next, until none is left
 unfoldable pub groups_of : ℕ → ℕ → List (List ℕ) → List (List (List ℕ))

@@ -1,6 +1,6 @@
 -- The next waiting reply, worked out from the image lent with its own gap. Document 01, "Each waiting reply ..".
 -- Assumes nothing.
-use Rattle.std.specs.Prelude.{ℕ, ◌+◌, ◌%◌, Bool, true, false, List, [], eqb, Option, Some, None}
+use Rattle.std.specs.Prelude.{ℕ, ◌+◌, ◌%◌, Bool, true, false, List, [], eqb, Option, Some, None, is_some, unwrap_or}
 use Rattle.octets.specs.Choice.{when◌then◌else◌}
 use Rattle.fields.specs.Answers.{identity_found, dates_found}
 use Rattle.octets.specs.declared.Kept.{Kept}
@@ -22,13 +22,20 @@ use Rattle.fields.specs.declared.Dates.{Dates}
 
 -- a message that is given, and what waits behind it: the rest, or nothing
 unfoldable pub firstly : Kept → Pending → Next
-firstly message rest = record { found = true; message = message; pending = rest }
+firstly message rest = record { message = Some message; pending = rest }
 
 unfoldable pub lastly : Kept → Next
 lastly message = firstly message nothing_pending
 
 unfoldable pub nothing_found : Next
-nothing_found = record { found = false; message = kept_of []; pending = nothing_pending }
+nothing_found = record { message = None; pending = nothing_pending }
+
+-- whether a message is given, and its octets: none where none is
+abbrev pub is_given : Next → Bool
+is_given next = is_some next.message
+
+abbrev pub message_in : Next → Kept
+message_in next = unwrap_or next.message (kept_of [])
 
 -- 122 asks for type 8, 123 for type 11
 unfoldable pub reading_type : ℕ → ℕ

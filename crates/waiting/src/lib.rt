@@ -11,35 +11,35 @@ use fields::{Dates, Identity};
 use message::Request;
 use octets::Kept;
 
-// Whether a reply waits; it, or no octets; and what waits behind it.
+// The reply that waits, if one does, and what waits behind it.
 #[derive(Clone, Copy)]
 pub struct Next {
-    pub found: bool,
-    pub message: Kept,
+    pub message: Option<Kept>,
     pub pending: Pending,
 }
 
 // A reply behind which nothing waits.
+#[tactic(auto, unfolding(crate::specs::NextReply::lastly, crate::specs::NextReply::firstly))]
 fn lastly(message: Kept) -> Next
     ensures { result ≡ lastly message }
 {
     Next {
-        found: true,
-        message,
+        message: Some(message),
         pending: Pending::new(),
     }
 }
 
+#[tactic(auto, unfolding(crate::specs::NextReply::nothing_found))]
 fn nothing() -> Next
     ensures { result ≡ nothing_found }
 {
     Next {
-        found: false,
-        message: Kept::new(),
+        message: None,
         pending: Pending::new(),
     }
 }
 
+#[tactic(auto, unfolding(crate::specs::NextReply::mirror_with))]
 fn mirror_with(request: Kept, pn: bool, cause: u8) -> Next
     ensures { result ≡ mirror_with request pn cause }
 {
@@ -47,6 +47,7 @@ fn mirror_with(request: Kept, pn: bool, cause: u8) -> Next
 }
 
 // Data with so many of the chosen given already.
+#[tactic(auto, unfolding(crate::specs::NextReply::data_pending))]
 fn data(request: Kept, clock: [u8; 7], before: usize) -> Pending
     ensures { result ≡ data_pending request clock before }
 {
@@ -58,12 +59,12 @@ fn data(request: Kept, clock: [u8; 7], before: usize) -> Pending
 }
 
 // Mirror 7, then data.
+#[tactic(auto, unfolding(crate::specs::NextReply::begin_with, crate::specs::NextReply::firstly))]
 fn begin(request: Kept, clock: [u8; 7]) -> Next
     ensures { result ≡ begin_with request clock }
 {
     Next {
-        found: true,
-        message: message::mirrored(request, false, 7),
+        message: Some(message::mirrored(request, false, 7)),
         pending: data(request, clock, 0),
     }
 }
@@ -72,8 +73,7 @@ fn begin(request: Kept, clock: [u8; 7]) -> Next
 fn asked(request: Kept) -> Request
     ensures { result ≡ request_of (octets_of request) }
 {
-    let octets = request.octets;
-    Request::read(octets::part(&octets, 0, request.length as usize))
+    Request::read(request.as_slice())
 }
 
 fn identity_from(request: Kept, found: Option<Identity>) -> Next
@@ -88,12 +88,13 @@ fn identity_from(request: Kept, found: Option<Identity>) -> Next
 fn dates_from(request: Kept, found: Option<Dates>) -> Next
     ensures { result ≡ dates_from request found }
 {
-    match found {
-        Some(dates) => lastly(data::dates(asked(request).header.point, dates)),
-        None => mirror_with(request, false, 14),
-    }
+    let Some(dates) = found else {
+        return mirror_with(request, false, 14);
+    };
+    lastly(data::dates(asked(request).header.point, dates))
 }
 
+#[tactic(auto, unfolding(crate::specs::NextReply::clock_from))]
 fn clock_from(request: Kept, clock: [u8; 7]) -> Next
     ensures { result ≡ clock_from request clock }
 {
@@ -104,23 +105,21 @@ fn clock_from(request: Kept, clock: [u8; 7]) -> Next
 fn reading_type(type_id: u8) -> u8
     ensures { result ≡ reading_type type_id }
 {
-    if type_id == 122 {
-        return 8;
-    }
-    11
+    if type_id == 122 { 8 } else { 11 }
 }
 
+#[tactic(auto, unfolding(crate::specs::NextReply::data_from))]
 fn data_from(request: Kept, image: &[u8], before: usize) -> Portion
     ensures { result ≡ data_from request image.now before }
 {
     let asked = asked(request);
     let type_id = asked.header.type_id;
-    let objects = asked.objects;
     let span = rules::span_of(asked);
     if type_id == 102 {
-        return data::events(image, span, before);
+        data::events(image, span, before)
+    } else {
+        data::reading(image, span, asked.objects, reading_type(type_id), before)
     }
-    data::reading(image, span, objects, reading_type(type_id), before)
 }
 
 // Data, or mirror 10 when no more is chosen.
@@ -131,21 +130,22 @@ fn after_data(request: Kept, clock: [u8; 7], before: usize, some: Portion) -> Ne
     if some.many == 0 {
         return mirror_with(request, false, 10);
     }
-    let message = some.message;
     Next {
-        found: true,
-        message,
+        message: Some(some.message),
         pending: data(request, clock, before + some.many),
     }
 }
 
 // The next waiting reply.
+#[tactic(auto, unfolding(crate::specs::NextReply::next_of))]
 pub fn next_reply(pending: Pending, image: &[u8]) -> Next
     ensures { result ≡ next_of pending image.now }
 {
-    let waiting = pending.waiting;
-    let request = pending.request;
-    let clock = pending.clock;
+    let Pending {
+        waiting,
+        request,
+        clock,
+    } = pending;
     match waiting {
         Waiting::NoReply => nothing(),
         Waiting::Mirror(cause) => mirror_with(request, false, cause),

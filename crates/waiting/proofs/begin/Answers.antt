@@ -1,5 +1,5 @@
--- `begin` answers mirror 7, and that data waits.
--- By its parts. Assumes nothing.
+-- `begin` answers mirror 7, and data behind it.
+-- Part by part. Assumes nothing.
 use Rattle.waiting.specs.NextReply.{firstly, begin_with}
 use Rattle.waiting.proofs.begin.Goals as goal
 

@@ -1,9 +1,6 @@
 -- `dates_from` answers the switch dates, or mirror 14.
--- By what the image has. Assumes nothing.
+-- By whether there are any. Assumes nothing.
 use Rattle.waiting.proofs.dates_from.Goals as goal
 
-pub returns-in-Is : goal.returns-in-Is
-returns-in-Is c = rw (c.in-Is.is, ← c.asked.ensures, ← c.dates.ensures) c.lastly.ensures
-
-pub returns-in-Nothing : goal.returns-in-Nothing
-returns-in-Nothing c = rw c.in-Nothing.is c.mirror_with.ensures
+pub returns-in_default : goal.returns-in_default
+returns-in_default c = rw c.in_default.is c.mirror_with.ensures

@@ -1,20 +1,18 @@
--- `Link::answer` answers a frame.
--- By the service that it asks for. Assumes nothing.
-use Rattle.link.specs.Answering.{answered}
+-- `answer` answers a frame that is for this card.
+-- By its service; what counts by what it does afresh. Assumes nothing.
+use Rattle.std.proofs.Common.{rules}
+use Rattle.link.specs.Answering.{answered, user_data, collection}
+use Rattle.link.proofs.Answering.{is_counted}
 use Rattle.link.proofs.Link.answer.Goals as goal
-
-pub returns-in-Reset : goal.returns-in-Reset
-unfolding answered
-returns-in-Reset c = rw (← c.identity_of.ensures, ← c.link_in-address.ensures, c.in-Reset.is, ← c.plain.ensures, ← c.after_reset.ensures) c.answered_by.ensures
 
 pub returns-in-UserData : goal.returns-in-UserData
 unfolding answered
-returns-in-UserData c = rw (← c.identity_of.ensures, ← c.link_in-address.ensures, c.in-UserData.is) c.counted_data.ensures
-
-pub returns-in-Status : goal.returns-in-Status
-unfolding answered
-returns-in-Status c = rw (← c.identity_of.ensures, ← c.link_in-address.ensures, c.in-Status.is) c.answered_by-in-Status.ensures
+returns-in-UserData c =
+    rw (← c.identity_of.ensures, ← c.link_in-address.ensures, c.in-UserData.is)
+    (is_counted c.in-UserData.bit c.args.self (user_data c.link_in-address.result c.in-UserData.bit c.args.self c.args.user c.args.image.now c.args.clock) c.counted.ensures (λ x a. search rules))
 
 pub returns-in-Collection : goal.returns-in-Collection
 unfolding answered
-returns-in-Collection c = rw (← c.identity_of.ensures, ← c.link_in-address.ensures, c.in-Collection.is) c.counted_collection.ensures
+returns-in-Collection c =
+    rw (← c.identity_of.ensures, ← c.link_in-address.ensures, c.in-Collection.is)
+    (is_counted c.in-Collection.bit c.args.self (collection c.link_in-address.result c.in-Collection.bit c.args.self c.args.image.now) c.counted-in-Collection.ensures (λ x a. search rules))
