@@ -39,15 +39,10 @@ module _ (k : Family) (c : Collector) where
       rw (le-ltb 261 c.length h, marked) (marked_judged k (take c.length c.octets) (omega (arith, long)) (omega (arith, long)))
 
 module _ (p : Profile) where
-  -- a character whose parity bit is right is put in as its octet is; and one whose parity bit is wrong, into a collector that is marked
+  -- a character whose parity bit is right is put in as its octet is
   pub right_collected : (c : Collector) (x : CharacterIn p) → right_in p x ≡ true → collected c (octet_in p x) ≡ collected_in p c x
   unfolding collected_in
   right_collected c x right = rw right
-
-  pub wrong_collected : (c : Collector) (x : CharacterIn p) → right_in p x ≡ false
-      → collected (record { octets = c.octets; length = c.length; marked = true }) (octet_in p x) ≡ collected_in p c x
-  unfolding collected_in
-  wrong_collected c x wrong = rw wrong
 
   pub right_all : (run : List (CharacterIn p)) (c : Collector) → are_right p run ≡ true → collected_all_in p c run ≡ collected_all c (octets_in p run)
   unfolding collected_all_in holds

@@ -1,7 +1,6 @@
 #![tactic(auto)]
 // What comes in: the collector of characters, and the count of damaged runs.
-ghost use Rattle.std.specs.Prelude.{◌+◌, ◌-◌, ◌≤◌, ◌≡◌, length};
-ghost use Rattle.octets.specs.Over.{over};
+ghost use Rattle.std.specs.Prelude.{◌≡◌};
 ghost use Rattle.profile.specs.declared.Profile.TheVariants.{Ten, Eleven};
 ghost use Rattle.collector.specs.Collecting.{emptied, overfull, collected, collected_in};
 ghost use Rattle.collector.specs.Calls.{collected_all, PutIn};
@@ -11,7 +10,7 @@ use frame::{Fault, Judged};
 use profile::Character;
 
 // The octets since the last gap: the first so many of the array, zeros behind. The mark says that a parity bit was wrong; it stands where the array leaves
-// one octet before the length, so that it costs no room. A length over 261 means overfull.
+// one octet before the length, so that it costs no room. A length over 261 means overfull. C lends one to `collect`, so that it is an array with a length.
 #[repr(C)]
 #[derive(Clone, Copy)]
 pub struct Collector {
@@ -21,6 +20,7 @@ pub struct Collector {
 }
 
 impl Collector {
+    #[tactic(auto, unfolding(crate::specs::Collecting::emptied))]
     pub fn new() -> Collector
         ensures { result ≡ emptied }
     {
@@ -32,32 +32,32 @@ impl Collector {
     }
 
     // An octet is put in; one more than there is room for marks the collector overfull.
+    #[tactic(auto, unfolding(crate::specs::Collecting::collected_in))]
     pub fn with(self, octet: u8) -> Collector
         ensures { result ≡ collected self octet }
     {
+        // by index: what `get_mut` leaves in the array no proof knows
         let at = self.length as usize;
         if at < Judged::LONGEST {
             let mut next = self;
             next.octets[at] = octet;
-            next.length = (at + 1) as u16;
-            return next;
+            next.length += 1;
+            next
+        } else {
+            Collector::overfull()
         }
-        Collector::overfull()
     }
 
     // A character is put in: a wrong parity bit marks the run, and the octet counts.
+    #[tactic(auto, unfolding(crate::specs::Collecting::collected_in))]
     pub fn with_character(self, character: Character) -> Collector
         ensures { result ≡ collected_in Eleven self character }
     {
-        let mut next = self;
-        if character.is_right() {
-            return next.with(character.octet);
-        }
-        next.marked = true;
-        next.with(character.octet)
+        let marked = !character.is_right() || self.marked;
+        Collector { marked, ..self }.with(character.octet)
     }
 
-    // The same of an octet and the parity bit that came with it.
+    // The same of an octet and the parity bit that came with it: `collect_character` hands its parameters on as they came, as the law of proofs/Lent has it.
     fn with_parity(self, octet: u8, parity: bool) -> Collector
         ensures { result ≡ collected_in Eleven self (record { octet = octet; parity = parity }) }
     {
@@ -68,47 +68,26 @@ impl Collector {
     pub fn with_all(self, octets: &[u8]) -> Collector
         ensures { result ≡ collected_all self octets.now }
     {
-        if octets.len() == 0 {
+        if octets.is_empty() {
             return self;
         }
-        if room_behind(self.length as usize) < octets.len() {
-            return Collector::overfull();
-        }
-        let kept = self.octets;
-        let at = self.length as usize;
-        Collector {
-            octets: written(kept, at, octets),
-            marked: self.marked,
-            length: (at + octets.len()) as u16,
+        let mut next = self;
+        if octets::put(&mut next.octets, self.length as usize, octets) {
+            next.length += octets.len() as u16;
+            next
+        } else {
+            Collector::overfull()
         }
     }
 
     fn overfull() -> Collector
         ensures { result ≡ overfull }
     {
-        let mut overfull = Collector::new();
-        overfull.length = (Judged::LONGEST + 1) as u16;
-        overfull
+        Collector {
+            length: (Judged::LONGEST + 1) as u16,
+            ..Collector::new()
+        }
     }
-}
-
-// How many octets find room behind so many.
-fn room_behind(length: usize) -> usize
-    ensures { result ≡ 261 - length }
-{
-    if length < Judged::LONGEST {
-        return Judged::LONGEST - length;
-    }
-    0
-}
-
-fn written(octets: [u8; 261], at: usize, top: &[u8]) -> [u8; 261]
-    requires { at + length top.now ≤ 261 }
-    ensures { result ≡ over octets at top.now }
-{
-    let mut all = octets;
-    octets::put(&mut all, at, top);
-    all
 }
 
 // The same of a collector that is lent.
@@ -129,21 +108,13 @@ pub fn collect_character(collector: &mut Collector, octet: u8, parity: bool)
 pub fn is_damaged(fault: Fault) -> bool
     ensures { result ≡ damages fault }
 {
-    match fault {
-        Fault::Empty => false,
-        Fault::Long => true,
-        Fault::Parity => true,
-        Fault::Malformed => true,
-        Fault::Spoiled => true,
-    }
+    !matches!(fault, Fault::Empty)
 }
 
 // The count of damaged runs with one more.
+#[tactic(auto, unfolding(crate::specs::Damage::one_more))]
 pub fn one_more(damaged: u16) -> u16
     ensures { result ≡ one_more damaged }
 {
-    if damaged < 65535 {
-        return damaged + 1;
-    }
-    damaged
+    damaged.saturating_add(1)
 }

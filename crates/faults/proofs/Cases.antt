@@ -1,5 +1,6 @@
 -- The definitions, worked out: for each part of a label and each rule of an image a small case that breaks it, and what is then named. Over 65,535 octets is
 -- not among them: see `Soundness`, `FirstFault`. By computation. Assumes nothing.
+use Rattle.std.specs.Prelude.{Option, Some, None}
 use Prim.Native.Nat.{ℕ}
 use mathlib.Core.List.{List, [], ◌∷◌, flatten, map}
 use mathlib.Core.Path.{◌≡◌, refl}
@@ -19,10 +20,10 @@ use Rattle.image.specs.Image.{reading_record, event_record, by_point, reading_be
 use Rattle.faults.specs.declared.LabelFault.{LabelFault}
 use Rattle.faults.specs.declared.LabelFault.TheVariants as label
 use Rattle.faults.specs.declared.ImageRule.{ImageRule}
-use Rattle.faults.specs.declared.ImageRule.TheVariants.{Version, FirstKind, PointZero, FirstDate, SecondDate, ReadingAddress, ReadingLabel, EventAddress, EventLabel, OutOfOrder, NinthPoint, NoPointBefore, UnknownPoint, Kind, Length, Cut, NoRecord, NoPoint, NoFault}
+use Rattle.faults.specs.declared.ImageRule.TheVariants.{Version, FirstKind, PointZero, FirstDate, SecondDate, ReadingAddress, ReadingLabel, EventAddress, EventLabel, OutOfOrder, NinthPoint, NoPointBefore, UnknownPoint, Kind, Length, Cut, NoRecord, NoPoint}
 use Rattle.faults.specs.declared.ImageFault.{ImageFault}
 use Rattle.faults.specs.Labels.{time_fault, label_fault_a, label_fault_b}
-use Rattle.faults.specs.Images.{follows, broken_rule, fault_from, image_fault}
+use Rattle.faults.specs.Images.{of_whole, follows, broken_rule, fault_from, image_fault}
 
 -- a label a by its octets as they stand; that of 1 January 2001 00:15; and a label b by its first two octets
 abbrev label_a : ℕ → ℕ → ℕ → ℕ → ℕ → LabelA
@@ -32,27 +33,27 @@ abbrev label_b : ℕ → ℕ → LabelB
 label_b low high = record { low = low; high = high; a = label_a 0x0F 0x00 0x21 0x01 0x01 }
 
 -- a case and what is named of it
-abbrev label_cases : List (LabelFault × LabelFault)
+abbrev label_cases : List (Option LabelFault × Option LabelFault)
 label_cases =
-    (label_fault_a (label_a 0x0F 0x00 0x21 0x01 0x01), label.NoFault)
-    ∷ (label_fault_a (label_a 0x8F 0x00 0x21 0x01 0x01), label.Iv)
-    ∷ (label_fault_a (label_a 0x4F 0x00 0x21 0x01 0x01), label.Tis)
-    ∷ (label_fault_a (label_a 0x0F 0x20 0x21 0x01 0x01), label.HourReserved)
-    ∷ (label_fault_a (label_a 0x0F 0x80 0x21 0x01 0x01), label.NoFault)
-    ∷ (label_fault_a (label_a 0x0F 0x00 0x21 0x11 0x01), label.EtiPti)
-    ∷ (label_fault_a (label_a 0x0F 0x00 0x21 0x01 0x81), label.YearReserved)
-    ∷ (label_fault_a (label_a 0x0F 0x00 0x21 0x01 0x64), label.Year)
-    ∷ (label_fault_a (label_a 0x0F 0x00 0x21 0x0D 0x01), label.Month)
-    ∷ (label_fault_a (label_a 0x0F 0x00 0x1D 0x02 0x01), label.Day)
-    ∷ (label_fault_a (label_a 0x0F 0x00 0x1D 0x02 0x00), label.NoFault)
-    ∷ (label_fault_a (label_a 0x0F 0x18 0x21 0x01 0x01), label.Hour)
-    ∷ (label_fault_a (label_a 0x3C 0x00 0x21 0x01 0x01), label.Minute)
-    ∷ (label_fault_b (label_b 0xE7 0xEF), label.NoFault)
-    ∷ (label_fault_b (label_b 0x00 0xF0), label.Second)
-    ∷ (label_fault_b (label_b 0xE8 0x03), label.Millisecond)
+    (label_fault_a (label_a 0x0F 0x00 0x21 0x01 0x01), None)
+    ∷ (label_fault_a (label_a 0x8F 0x00 0x21 0x01 0x01), Some label.Iv)
+    ∷ (label_fault_a (label_a 0x4F 0x00 0x21 0x01 0x01), Some label.Tis)
+    ∷ (label_fault_a (label_a 0x0F 0x20 0x21 0x01 0x01), Some label.HourReserved)
+    ∷ (label_fault_a (label_a 0x0F 0x80 0x21 0x01 0x01), None)
+    ∷ (label_fault_a (label_a 0x0F 0x00 0x21 0x11 0x01), Some label.EtiPti)
+    ∷ (label_fault_a (label_a 0x0F 0x00 0x21 0x01 0x81), Some label.YearReserved)
+    ∷ (label_fault_a (label_a 0x0F 0x00 0x21 0x01 0x64), Some label.Year)
+    ∷ (label_fault_a (label_a 0x0F 0x00 0x21 0x0D 0x01), Some label.Month)
+    ∷ (label_fault_a (label_a 0x0F 0x00 0x1D 0x02 0x01), Some label.Day)
+    ∷ (label_fault_a (label_a 0x0F 0x00 0x1D 0x02 0x00), None)
+    ∷ (label_fault_a (label_a 0x0F 0x18 0x21 0x01 0x01), Some label.Hour)
+    ∷ (label_fault_a (label_a 0x3C 0x00 0x21 0x01 0x01), Some label.Minute)
+    ∷ (label_fault_b (label_b 0xE7 0xEF), None)
+    ∷ (label_fault_b (label_b 0x00 0xF0), Some label.Second)
+    ∷ (label_fault_b (label_b 0xE8 0x03), Some label.Millisecond)
     ∷ []
 
-labels_so : map (λ (case : LabelFault × LabelFault). case.0) label_cases ≡ map (λ (case : LabelFault × LabelFault). case.1) label_cases
+labels_so : map (λ (case : Option LabelFault × Option LabelFault). case.0) label_cases ≡ map (λ (case : Option LabelFault × Option LabelFault). case.1) label_cases
 unfolding label_fault_a label_fault_b time_fault date_time_a second millisecond low_first leap leap_day month_length
 labels_so = refl
 
@@ -72,14 +73,14 @@ reading n address minute = 0 ∷ 39 ∷ 4 ∷ 0 ∷ n ∷ address ∷ minute ∷
 abbrev event : ℕ → ℕ → ℕ → List ℕ
 event n address minute = 0 ∷ 13 ∷ 5 ∷ 0 ∷ n ∷ address ∷ 9 ∷ 1 ∷ 0 ∷ 0 ∷ minute ∷ 0 ∷ 1 ∷ 1 ∷ 0 ∷ []
 
-abbrev fault : ImageRule → ℕ → ℕ → ImageFault
-fault rule number place = record { rule = rule; number = number; place = place }
+abbrev fault : ImageRule → ℕ → ℕ → Option ImageFault
+fault rule number at = Some (record { rule = rule; place = Some (record { number = number; at = at }) })
 
 -- the records behind version 1, and what is named of the image
-abbrev image_cases : List (List (List ℕ) × ImageFault)
+abbrev image_cases : List (List (List ℕ) × Option ImageFault)
 image_cases =
-    (first ∷ point 1 ∷ [], fault NoFault 0 0)
-    ∷ (first ∷ point 1 ∷ point 2 ∷ dates 0 0 ∷ reading 1 11 15 ∷ reading 2 11 15 ∷ event 1 52 0 ∷ event 1 52 0 ∷ [], fault NoFault 0 0)
+    (first ∷ point 1 ∷ [], None)
+    ∷ (first ∷ point 1 ∷ point 2 ∷ dates 0 0 ∷ reading 1 11 15 ∷ reading 2 11 15 ∷ event 1 52 0 ∷ event 1 52 0 ∷ [], None)
     ∷ (point 1 ∷ [], fault FirstKind 1 1)
     ∷ (first ∷ point 0 ∷ [], fault PointZero 2 12)
     ∷ (first ∷ point 1 ∷ dates 60 60 ∷ [], fault FirstDate 3 21)
@@ -98,16 +99,16 @@ image_cases =
     ∷ (first ∷ point 1 ∷ (7 ∷ 0 ∷ 2 ∷ []) ∷ [], fault Length 3 21)
     ∷ (first ∷ point 1 ∷ (0 ∷ 7 ∷ 2 ∷ 0 ∷ []) ∷ [], fault Cut 3 21)
     ∷ (first ∷ point 1 ∷ (0 ∷ []) ∷ [], fault Cut 3 21)
-    ∷ ([], fault NoRecord 0 0)
-    ∷ (first ∷ [], fault NoPoint 0 0)
+    ∷ ([], of_whole NoRecord)
+    ∷ (first ∷ [], of_whole NoPoint)
     ∷ []
 
-images_so : map (λ (case : List (List ℕ) × ImageFault). image_fault (1 ∷ flatten case.0)) image_cases
-    ≡ map (λ (case : List (List ℕ) × ImageFault). case.1) image_cases
+images_so : map (λ (case : List (List ℕ) × Option ImageFault). image_fault (1 ∷ flatten case.0)) image_cases
+    ≡ map (λ (case : List (List ℕ) × Option ImageFault). case.1) image_cases
 unfolding image_fault fault_from broken_rule follows flatten records_of records_from records walk is_whole holds length_of high_first low_first keep how_many number_at point_of first_date second_date record_address reading_label event_label reading_record event_record by_point reading_before event_before in_order knows label_a_at label_b_at valid_b second millisecond in_minute before_b before_a instant minutes day_number days_to_year days_of_months valid_a date_time_a real leap leap_day month_length
 images_so = refl
 
 -- and of images that do not begin with version 1
-versions_so : map image_fault ([] ∷ (2 ∷ first) ∷ []) ≡ fault Version 0 0 ∷ fault Version 0 0 ∷ []
+versions_so : map image_fault ([] ∷ (2 ∷ first) ∷ []) ≡ of_whole Version ∷ of_whole Version ∷ []
 unfolding image_fault fault_from broken_rule follows flatten records_of records_from records walk is_whole holds length_of high_first low_first keep how_many in_order knows
 versions_so = refl

@@ -1,12 +1,12 @@
 -- A label has a fault exactly when it is not valid, and the fault named is the first.
 -- The tests are those of a valid label, the other way round and in another order. Assumes nothing.
+use Rattle.std.specs.Prelude.{Option, None, is_some}
 use Prim.Native.Nat.{ℕ}
-use mathlib.Core.Bool.{Bool, true, not, ◌&&◌}
+use mathlib.Core.Bool.{true, ◌&&◌}
 use mathlib.Core.List.{List, ◌++◌}
 use mathlib.Core.Path.{◌≡◌, refl, ap, ◌∙◌}
-use denote.Enum.Declared.{tag_of}
 use borrow.Author.Tests.{eq-eqb, le-leb}
-use lib.Dec.{leb, eqb}
+use lib.Dec.{leb}
 use Rattle.octets.specs.Conditions.{holds}
 use Rattle.octets.specs.First.{When}
 use Rattle.octets.proofs.Conditions.{and_left, and_right, holds_at, holds_more, holds_none}
@@ -19,27 +19,21 @@ use Rattle.label.specs.Label.{date_time_a, valid_a, valid_b}
 use Rattle.label.proofs.Label.{valid_a_law, valid_b_law}
 use Rattle.label.proofs.Time.{real_facts}
 use Rattle.faults.specs.declared.LabelFault.{LabelFault}
-use Rattle.faults.specs.declared.LabelFault.TheVariants.{NoFault}
 use Rattle.faults.specs.Labels.{flag_faults, time_faults, time_fault, label_fault_a, clock_faults, label_fault_b}
-use Rattle.faults.specs.contracts.LabelFault.{the_type}
 use Rattle.faults.proofs.Named.{unrefused, refused_not, both, holds_later, fails, passes, passed}
 
--- every variant but the last is a fault
-abbrev is_fault : LabelFault → Bool
-is_fault fault = not (eqb (tag_of the_type fault) 12)
-
 -- all the tests of a label, one after the other
-abbrev pub faults_a : LabelA → List (When LabelFault)
+abbrev pub faults_a : LabelA → List (When (Option LabelFault))
 faults_a l = flag_faults l ++ time_faults (date_time_a l)
 
-abbrev pub faults_b : LabelB → List (When LabelFault)
+abbrev pub faults_b : LabelB → List (When (Option LabelFault))
 faults_b l = clock_faults l ++ faults_a l.a
 
 module _ (l : LabelA) where
   -- the first part that is wrong is named
-  pub first_a : Gives NoFault (faults_a l) (label_fault_a l)
+  pub first_a : Gives None (faults_a l) (label_fault_a l)
   unfolding label_fault_a time_fault
-  first_a = first_gives (faults_a l) NoFault
+  first_a = first_gives (faults_a l) None
 
   clear_valid : holds (fails (faults_a l)) ≡ true → valid_a l ≡ true
   unfolding valid_a real
@@ -75,20 +69,20 @@ module _ (l : LabelA) where
       (holds_more _ (refused_not (le-leb _ _ t.hour)) (holds_more _ (refused_not (le-leb _ _ t.minute)) holds_none)))))))))
 
   -- a fault is named exactly when the label is not valid
-  pub valid_no_fault_a : valid_a l ≡ true → label_fault_a l ≡ NoFault
+  pub valid_no_fault_a : valid_a l ≡ true → label_fault_a l ≡ None
   unfolding label_fault_a time_fault
-  valid_no_fault_a e = passes (faults_a l) NoFault (valid_clear e)
+  valid_no_fault_a e = passes (faults_a l) None (valid_clear e)
 
-  pub no_fault_valid_a : label_fault_a l ≡ NoFault → valid_a l ≡ true
+  pub no_fault_valid_a : label_fault_a l ≡ None → valid_a l ≡ true
   unfolding label_fault_a time_fault
-  no_fault_valid_a e = clear_valid (passed is_fault (faults_a l) NoFault refl (ap is_fault e))
+  no_fault_valid_a e = clear_valid (passed is_some (faults_a l) None refl (ap is_some e))
 
 module _ (l : LabelB) where
-  pub first_b : Gives NoFault (faults_b l) (label_fault_b l)
+  pub first_b : Gives None (faults_b l) (label_fault_b l)
   unfolding label_fault_b label_fault_a time_fault
-  first_b = first_gives (faults_b l) NoFault
+  first_b = first_gives (faults_b l) None
 
-  pub valid_no_fault_b : valid_b l ≡ true → label_fault_b l ≡ NoFault
+  pub valid_no_fault_b : valid_b l ≡ true → label_fault_b l ≡ None
   unfolding label_fault_b
   valid_no_fault_b e =
       let v = valid_b_law l e in
@@ -96,10 +90,10 @@ module _ (l : LabelB) where
       (holds_more _ (refused_not (le-leb _ _ v.second_last)) (holds_more _ (refused_not (le-leb _ _ v.millisecond_last)) holds_none))
       ∙ valid_no_fault_a l.a v.valid
 
-  pub no_fault_valid_b : label_fault_b l ≡ NoFault → valid_b l ≡ true
+  pub no_fault_valid_b : label_fault_b l ≡ None → valid_b l ≡ true
   unfolding label_fault_b label_fault_a time_fault valid_b
   no_fault_valid_b e =
-      let h = passed is_fault (faults_b l) NoFault refl (ap is_fault e) in
+      let h = passed is_some (faults_b l) None refl (ap is_some e) in
       let at : (i : ℕ) → _ = holds_at (fails (faults_b l)) h in
       holds_more _ (unrefused _ (at 0))
       (holds_more _ (unrefused _ (at 1)) (holds_more _ (clear_valid l.a (holds_later _ _ (holds_later _ _ h))) holds_none))

@@ -1,5 +1,6 @@
 -- What the public contracts of this crate do not allow: two wrong outcomes or more of each.
 -- By the theorems that a fault is named exactly where there is one, and by computation. Assumes nothing.
+use Rattle.std.specs.Prelude.{Option, Some, None, option_map, unwrap_or}
 use Prim.Native.Nat.{ℕ}
 use mathlib.Core.Bool.{true, false}
 use mathlib.Core.List.{List, [], ◌∷◌, ◌++◌, flatten}
@@ -22,8 +23,9 @@ use Rattle.image.specs.Image.{in_order, knows, sound_image}
 use Rattle.faults.specs.declared.LabelFault.{LabelFault}
 use Rattle.faults.specs.declared.LabelFault.TheVariants as label
 use Rattle.faults.specs.declared.ImageRule.{ImageRule}
-use Rattle.faults.specs.declared.ImageRule.TheVariants.{OutOfOrder, Cut, NoPoint, NoFault}
+use Rattle.faults.specs.declared.ImageRule.TheVariants.{OutOfOrder, Cut, NoPoint}
 use Rattle.faults.specs.declared.ImageFault.{ImageFault}
+use Rattle.faults.specs.declared.RecordPlace.{RecordPlace}
 use Rattle.faults.specs.Labels.{time_fault, label_fault_a, label_fault_b}
 use Rattle.faults.specs.Images.{follows, broken_rule, fault_from, image_fault}
 use Rattle.faults.proofs.Labels.{valid_no_fault_a, no_fault_valid_a, valid_no_fault_b, no_fault_valid_b}
@@ -47,33 +49,33 @@ label_a minute hour day month year = record { minute = minute; hour = hour; day 
 
 module _ (κs : Lfts 0) where
   -- no fault of a label a that is not valid, whatever the label
-  of_label_a_none : (l : LabelA) → valid_a l ≡ false → RuledOut (of_label_a.Post κs) (l, tt) label.NoFault
+  of_label_a_none : (l : LabelA) → valid_a l ≡ false → RuledOut (of_label_a.Post κs) (l, tt) None
   of_label_a_none l out s p = not_both out (no_fault_valid_a l (sym p))
 
   -- a fault of a label a that is valid, whatever the label
-  of_label_a_some : (l : LabelA) (fault : LabelFault) → valid_a l ≡ true → (fault ≡ label.NoFault → ⊥) → RuledOut (of_label_a.Post κs) (l, tt) fault
-  of_label_a_some l fault valid some s p = some (p ∙ valid_no_fault_a l valid)
+  of_label_a_some : (l : LabelA) (fault : LabelFault) → valid_a l ≡ true → RuledOut (of_label_a.Post κs) (l, tt) (Some fault)
+  of_label_a_some l fault valid s p = let e : Some fault ≡ None = p ∙ valid_no_fault_a l valid in never (cc)
 
   -- TIS named where IV is set too, whatever the rest
-  of_label_a_later : (hour day month year : ℕ) → RuledOut (of_label_a.Post κs) (label_a 0xC0 hour day month year, tt) label.Tis
+  of_label_a_later : (hour day month year : ℕ) → RuledOut (of_label_a.Post κs) (label_a 0xC0 hour day month year, tt) (Some label.Tis)
   unfolding the_label
   of_label_a_later hour day month year s p = never (cc)
 
   -- the month named for 29 February 2001, whose day is wrong
-  of_label_a_day : RuledOut (of_label_a.Post κs) (label_a 0 0 29 2 1, tt) label.Month
+  of_label_a_day : RuledOut (of_label_a.Post κs) (label_a 0 0 29 2 1, tt) (Some label.Month)
   unfolding the_label
   of_label_a_day s p = never (cc)
 
   -- no fault of a label b that is not valid, whatever the label
-  of_label_b_none : (l : LabelB) → valid_b l ≡ false → RuledOut (of_label_b.Post κs) (l, tt) label.NoFault
+  of_label_b_none : (l : LabelB) → valid_b l ≡ false → RuledOut (of_label_b.Post κs) (l, tt) None
   of_label_b_none l out s p = not_both out (no_fault_valid_b l (sym p))
 
   -- a fault of a label b that is valid, whatever the label
-  of_label_b_some : (l : LabelB) (fault : LabelFault) → valid_b l ≡ true → (fault ≡ label.NoFault → ⊥) → RuledOut (of_label_b.Post κs) (l, tt) fault
-  of_label_b_some l fault valid some s p = some (p ∙ valid_no_fault_b l valid)
+  of_label_b_some : (l : LabelB) (fault : LabelFault) → valid_b l ≡ true → RuledOut (of_label_b.Post κs) (l, tt) (Some fault)
+  of_label_b_some l fault valid s p = let e : Some fault ≡ None = p ∙ valid_no_fault_b l valid in never (cc)
 
   -- the millisecond named where the second is 60, whatever the label a
-  of_label_b_later : (a : LabelA) → RuledOut (of_label_b.Post κs) (record { low = 0xE8; high = 0xF3; a = a }, tt) label.Millisecond
+  of_label_b_later : (a : LabelA) → RuledOut (of_label_b.Post κs) (record { low = 0xE8; high = 0xF3; a = a }, tt) (Some label.Millisecond)
   unfolding the_label
   of_label_b_later a s p = never (cc)
 
@@ -84,30 +86,33 @@ head = 1 ∷ 0 ∷ 9 ∷ 1 ∷ 0 ∷ 1 ∷ 0 ∷ 0 ∷ 0 ∷ 0 ∷ 0 ∷ 0 ∷ [
 abbrev point : ℕ → List ℕ
 point n = 0 ∷ 7 ∷ 2 ∷ 0 ∷ n ∷ 0x12 ∷ 0x34 ∷ 0x56 ∷ 0x78 ∷ []
 
-abbrev fault : ImageRule → ℕ → ℕ → ImageFault
-fault rule number place = record { rule = rule; number = number; place = place }
+abbrev fault : ImageRule → ℕ → ℕ → Option ImageFault
+fault rule number place = Some (record { rule = rule; place = Some (record { number = number; at = place }) })
+
+abbrev place_of : Option ImageFault → RecordPlace
+place_of (Some f) = unwrap_or f.place (record { number = 0; at = 0 })
+place_of None = record { number = 0; at = 0 }
 
 module _ (κs : Lfts 1) (x : Place) where
-  -- no fault of an image that is not sound, whatever the number and place
-  of_image_none : (image : List ℕ) (number place : ℕ) → sound_image image ≡ false → RuledOut (of_image.Post κs) (lent x image, tt) (fault NoFault number place)
-  of_image_none image number place out s p = not_both out (no_fault_sound image (sym (ap (λ (f : ImageFault). f.rule) p)))
+  -- no fault of an image that is not sound
+  of_image_none : (image : List ℕ) → sound_image image ≡ false → RuledOut (of_image.Post κs) (lent x image, tt) None
+  of_image_none image out s p = not_both out (no_fault_sound image (sym p))
 
-  -- a fault of an image that is sound, whatever the number and place
-  of_image_some : (image : List ℕ) (rule : ImageRule) (number place : ℕ) → sound_image image ≡ true → (rule ≡ NoFault → ⊥)
-      → RuledOut (of_image.Post κs) (lent x image, tt) (fault rule number place)
-  of_image_some image rule number place sound some s p = some (ap (λ (f : ImageFault). f.rule) p ∙ sound_no_fault image sound)
+  -- a fault of an image that is sound
+  of_image_some : (image : List ℕ) (fault : ImageFault) → sound_image image ≡ true → RuledOut (of_image.Post κs) (lent x image, tt) (Some fault)
+  of_image_some image fault sound s p = let e : Some fault ≡ None = p ∙ sound_no_fault image sound in never (cc)
 
   -- the point in front named, of two that do not rise
   of_image_front : (place : ℕ) → RuledOut (of_image.Post κs) (lent x (head ++ (point 7 ++ point 7)), tt) (fault OutOfOrder 2 place)
   unfolding the_image
-  of_image_front place s p = omega (arith, ap (λ (f : ImageFault). f.number) p)
+  of_image_front place s p = omega (arith, ap (λ (f : Option ImageFault). (place_of f).number) p)
 
   -- the place behind the record at fault
   of_image_behind : RuledOut (of_image.Post κs) (lent x (head ++ (point 7 ++ point 7)), tt) (fault OutOfOrder 3 30)
   unfolding the_image
-  of_image_behind s p = omega (arith, ap (λ (f : ImageFault). f.place) p)
+  of_image_behind s p = omega (arith, ap (λ (f : Option ImageFault). (place_of f).at) p)
 
   -- a point that is missing where the record of one is cut
   of_image_cut : (number place : ℕ) → RuledOut (of_image.Post κs) (lent x (head ++ (0 ∷ 7 ∷ 2 ∷ 0 ∷ 1 ∷ [])), tt) (fault NoPoint number place)
   unfolding the_image
-  of_image_cut number place s p = let e : NoPoint ≡ Cut = ap (λ (f : ImageFault). f.rule) p in never (cc)
+  of_image_cut number place s p = let e : Some NoPoint ≡ Some Cut = ap (option_map (λ (f : ImageFault). f.rule)) p in never (cc)

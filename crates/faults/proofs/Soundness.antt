@@ -1,12 +1,12 @@
 -- An image has a fault exactly when it is not sound.
 -- What no test of a record says of it; records without a fault, one behind the other, keep what a sound image asks; and a sound image leaves no
 -- test to any of its records, since points stand before all that names them. Assumes nothing.
+use Rattle.std.specs.Prelude.{Option, Some, None, is_some}
 use Prim.Native.Nat.{ℕ, ◌+◌, ◌-◌, ◌≤◌, ◌<◌}
 use mathlib.Core.Bool.{Bool, true, false, not, ◌&&◌, false≢true}
 use mathlib.Core.List.{List, [], ◌∷◌, ◌++◌, flatten, append_assoc, append-nil}
 use mathlib.Core.Path.{◌≡◌, refl, ap, sym, ◌∙◌}
 use native.Mathlib.Omega.{arith}
-use denote.Enum.Declared.{tag_of}
 use borrow.Author.Tests.{eqb-true, eqb-false, ltb-true, ltb-false, leb-true, leb-false, not-true, not-false, eq-eqb, ne_eqb, lt-ltb, le-ltb, le-leb, lt-leb}
 use lib.Dec.{ltb, leb, eqb}
 use lib.ListN.{length, get_or, drop, length-drop, length-take, get_or-eq_default}
@@ -26,20 +26,16 @@ use Rattle.image.specs.Image.{reading_record, event_record, right, in_order, kno
 use Rattle.image.proofs.Known.{from_kind, head_once, head_first, head_kind, dates_at_most_once, points_2, kinds_2}
 use Rattle.image.proofs.Soundness.{Rules, rules, has_head, right_point, right_dates, right_reading, right_event}
 use Rattle.faults.specs.declared.ImageRule.{ImageRule}
-use Rattle.faults.specs.declared.ImageRule.TheVariants.{Cut, NoFault}
 use Rattle.faults.specs.declared.ImageFault.{ImageFault}
-use Rattle.faults.specs.Images.{of_whole, behind, own_rules, follows, record_rules, broken_rules, broken_rule, end_faults, faults_behind, fault_from, whole_faults, image_fault}
+use Rattle.faults.specs.Images.{behind, own_rules, follows, record_rules, end_faults, faults_behind, fault_from, whole_faults, image_fault}
 use Rattle.faults.specs.working.Walking.{headed, Fine}
-use Rattle.faults.specs.contracts.ImageRule.{the_type}
-use Rattle.faults.proofs.Named.{unrefused, refused_not, both, fails, Comes, quiet, loud, comes, always, passes, passed, named_first}
+use Rattle.faults.proofs.Named.{unrefused, refused_not, both, fails, Comes, quiet, loud, comes, passes, passed, named_first}
 use Rattle.faults.proofs.Lists.{every_more, every_back, how_many_law, one_more, no_more, linked_more, linked_back, linked_follows, knows_more}
 
--- every variant but the last is a fault
-abbrev pub is_fault : ImageRule → Bool
-is_fault rule = not (eqb (tag_of the_type rule) 19)
-
-abbrev pub has_fault : ImageFault → Bool
-has_fault fault = is_fault fault.rule
+-- a fault of the record behind some records is one where a rule is broken
+pub behind_some : (before : List (List ℕ)) (rule : Option ImageRule) → is_some (behind before rule) ≡ is_some rule
+behind_some before (Some rule) = refl
+behind_some before None = refl
 
 some : (n : ℕ) → eqb n 0 ≡ false → 0 < n
 some n e = let other : n ≡ 0 → ⊥ = eqb-false n 0 e in omega arith
@@ -162,11 +158,6 @@ module _ (before : List (List ℕ)) (r : List ℕ) (f : Fine before) (c : Clear 
             (knows_more before (r ∷ []) r c.point_known);
       }
 
--- octets that are no record are at fault
-broken_fault : (s : List ℕ) → is_fault (broken_rule s) ≡ true
-unfolding broken_rule
-broken_fault s = always is_fault (broken_rules s) Cut refl refl
-
 -- what the end of the records says where it is not at fault
 pub record Ended (image : List ℕ) (rs : List (List ℕ)) : Type 0 where
   pub none_left : length image ≤ 1 + length (flatten rs)
@@ -177,9 +168,9 @@ module _ (image : List ℕ) (before : List (List ℕ)) where
   abbrev left : List ℕ
   left = drop (1 + length (flatten before)) image
 
-  ended : has_fault (first_of end_faults image before else of_whole NoFault) ≡ false → Ended image before
+  ended : is_some (first_of end_faults image before else None) ≡ false → Ended image before
   ended e =
-      let h = passed has_fault (end_faults image before) (of_whole NoFault) (rw (broken_fault left)) e in
+      let h = passed is_some (end_faults image before) (None) refl e in
       let at : (i : ℕ) → get_or (fails (end_faults image before)) i true ≡ true = holds_at (fails (end_faults image before)) h in
       record {
         none_left = omega (arith, ltb-false 0 (length left) (not-true _ (at 0)), length-drop (1 + length (flatten before)) image);
@@ -187,30 +178,30 @@ module _ (image : List ℕ) (before : List (List ℕ)) where
         some_point = some _ (not-true _ (at 2));
       }
 
-  not_ended : Ended image before → (first_of end_faults image before else of_whole NoFault) ≡ of_whole NoFault
+  not_ended : Ended image before → (first_of end_faults image before else None) ≡ None
   not_ended d =
-      passes (end_faults image before) (of_whole NoFault)
+      passes (end_faults image before) (None)
       (holds_more _ (ap not (le-ltb 0 (length left) (omega (arith, d.none_left, length-drop (1 + length (flatten before)) image))))
       (holds_more _ (ap not (ne_eqb (length before) 0 (λ z. omega (arith, d.some_record))))
       (holds_more _ (ap not (ne_eqb (how_many (is_kind 2) before) 0 (λ z. omega (arith, d.some_point)))) holds_none)))
 
 -- no fault is found: the records are fine to their end
-pub all_fine : (image : List ℕ) (before rs : List (List ℕ)) → Fine before → has_fault (fault_from image before rs) ≡ false → Fine (before ++ rs) × Ended image (before ++ rs)
+pub all_fine : (image : List ℕ) (before rs : List (List ℕ)) → Fine before → is_some (fault_from image before rs) ≡ false → Fine (before ++ rs) × Ended image (before ++ rs)
 unfolding fault_from
 all_fine image before [] f e = rw (append-nil before) (f, ended image before e)
 all_fine image before (r ∷ rs) f e =
     by_way (λ f' e'. rw (append_assoc before (r ∷ []) rs) at (all_fine image (before ++ (r ∷ [])) rs f' e'))
-    (comes is_fault (record_rules before r) NoFault refl)
+    (comes is_some (record_rules before r) None refl)
   where
-    other : ImageFault
+    other : Option ImageFault
     other = fault_from image (before ++ (r ∷ [])) rs
 
-    by_way : (Fine (before ++ (r ∷ [])) → has_fault other ≡ false → Fine (before ++ (r ∷ rs)) × Ended image (before ++ (r ∷ rs)))
-        → Comes is_fault (record_rules before r) NoFault → Fine (before ++ (r ∷ rs)) × Ended image (before ++ (r ∷ rs))
+    by_way : (Fine (before ++ (r ∷ [])) → is_some other ≡ false → Fine (before ++ (r ∷ rs)) × Ended image (before ++ (r ∷ rs)))
+        → Comes is_some (record_rules before r) None → Fine (before ++ (r ∷ rs)) × Ended image (before ++ (r ∷ rs))
     by_way rest (quiet all) =
         rest (still_fine before r f (clear before r all)) (rw (passes (faults_behind before (record_rules before r)) other all) at e)
     by_way rest (loud named) =
-        absurd (not_both (rw (named_first is_fault (behind before) (record_rules before r) NoFault other refl named) at e) named)
+        absurd (not_both (sym (behind_some before _) ∙ rw (named_first is_some (behind before) (record_rules before r) None other refl named) at e) named)
 
 -- the records of an image lie within it
 within : (image : List ℕ) → length (flatten (records_of image)) ≤ length image - 1
@@ -249,17 +240,17 @@ module _ (image : List ℕ) where
           by_test false e = absurd (omega (arith, z (ltb-false 0 n e)))
 
   -- an image without a fault is sound
-  pub no_fault_sound : (image_fault image).rule ≡ NoFault → sound_image image ≡ true
+  pub no_fault_sound : image_fault image ≡ None → sound_image image ≡ true
   unfolding image_fault
-  no_fault_sound e = by_way (comes has_fault (whole_faults image) (fault_from image [] (records_of image)) refl)
+  no_fault_sound e = by_way (comes is_some (whole_faults image) (fault_from image [] (records_of image)) refl)
     where
-      by_way : Comes has_fault (whole_faults image) (fault_from image [] (records_of image)) → sound_image image ≡ true
+      by_way : Comes is_some (whole_faults image) (fault_from image [] (records_of image)) → sound_image image ≡ true
       by_way (quiet all) =
           let at : (i : ℕ) → get_or (fails (whole_faults image)) i true ≡ true = holds_at (fails (whole_faults image)) all in
-          let none = ap is_fault (rw (passes (whole_faults image) (fault_from image [] (records_of image)) all) at e) in
+          let none = ap is_some (rw (passes (whole_faults image) (fault_from image [] (records_of image)) all) at e) in
           let found = all_fine image [] (records_of image) none_fine none in
           sound_so (ltb-false 65535 (length image) (not-true _ (at 0))) (eqb-true _ _ (unrefused _ (at 1))) found.0 found.1
-      by_way (loud named) = absurd (not_both (ap is_fault e) named)
+      by_way (loud named) = absurd (not_both (ap is_some e) named)
 
 -- where an image is sound, each of its records passes
 none_later : (f : List ℕ → Bool) → ((q : List ℕ) → f q ≡ true → kind_of q ≡ 2) → (r : List ℕ) (rs : List (List ℕ)) → linked in_order (r ∷ rs) ≡ true
@@ -318,7 +309,7 @@ module _ (image : List ℕ) (s : Rules image) where
             (every_back (knows (before ++ (r ∷ rs))) before (r ∷ rs) (rw e s.all_known)));
       }
 
-  none_found : (before rs : List (List ℕ)) → before ++ rs ≡ records_of image → fault_from image before rs ≡ of_whole NoFault
+  none_found : (before rs : List (List ℕ)) → before ++ rs ≡ records_of image → fault_from image before rs ≡ None
   unfolding fault_from
   none_found before [] e = let same : before ≡ records_of image = sym (append-nil before) ∙ e in not_ended image before (rw same all_ended)
   none_found before (r ∷ rs) e =
@@ -326,11 +317,10 @@ module _ (image : List ℕ) (s : Rules image) where
       ∙ none_found (before ++ (r ∷ [])) rs (append_assoc before (r ∷ []) rs ∙ e)
 
 -- a sound image has no fault
-pub sound_no_fault : (image : List ℕ) → sound_image image ≡ true → (image_fault image).rule ≡ NoFault
+pub sound_no_fault : (image : List ℕ) → sound_image image ≡ true → image_fault image ≡ None
 unfolding image_fault
 sound_no_fault image e =
     let s = rules image e in
-    ap (λ (fault : ImageFault). fault.rule)
-    (passes (whole_faults image) (fault_from image [] (records_of image))
+    passes (whole_faults image) (fault_from image [] (records_of image))
     (holds_more _ (ap not (le-ltb 65535 (length image) s.short)) (holds_more _ (refused_not (eq-eqb _ _ s.version)) holds_none))
-    ∙ none_found image s [] (records_of image) refl)
+    ∙ none_found image s [] (records_of image) refl

@@ -1,21 +1,22 @@
 -- The walk over an image's records, step by step: what the record where it stands breaks is what its definition says, given the records before; one
 -- record further the walk stands again; and at the end of the records the end decides.
 -- Points stand behind the first record one after the other, so that one found there is one before any reading or event. Assumes nothing.
+use Rattle.std.specs.Prelude.{Option, Some, None, is_some, MatchOption}
 use Prim.Native.Nat.{ℕ, ◌+◌, ◌≤◌, ◌<◌}
 use mathlib.Core.Bool.{Bool, true, false, not, ◌&&◌}
 use mathlib.Core.List.{List, [], ◌∷◌, ◌++◌, flatten, append_assoc}
 use mathlib.Core.Path.{◌≡◌, refl, ap, sym, ◌∙◌}
-use native.Mathlib.Numerals.{add-one}
 use native.Mathlib.Omega.{arith}
-use borrow.Author.Tests.{eqb-true, eqb-false, leb-true, eq-eqb, ne_eqb, lt-ltb, le-ltb, le-leb}
+use borrow.Author.Tests.{eqb-true, eqb-false, ltb-true, ltb-false, leb-true, eq-eqb, ne_eqb, lt-ltb, le-ltb, le-leb}
 use lib.Dec.{ltb, leb, eqb}
-use lib.ListN.{length, get_or, take, drop, length-append, length-drop}
-use lib.Seq.{get_or-drop}
+use lib.ListN.{length, get_or, take, drop, length-append, length-drop, length-take}
+use lib.Seq.{get_or-take}
 use Rattle.octets.specs.Choice.{when◌then◌else◌}
 use Rattle.octets.specs.First.{first_of◌else◌}
 use Rattle.octets.specs.Numbers.{high_first}
 use Rattle.octets.proofs.Choice.{if_both}
 use Rattle.octets.proofs.Lists.{part_at}
+use Rattle.octets.proofs.Outcome.{never}
 use Rattle.records.specs.Records.{length_of, kind_of, whole_at, record_at, records_from, place_after}
 use Rattle.records.specs.Said.{keep, how_many}
 use Rattle.records.proofs.Records.{whole_facts, whole_itself, from_end, from_more, after_whole, after_later, kind_whole, kind_there}
@@ -25,18 +26,17 @@ use Rattle.fields.specs.working.Key.{key_of, key_at}
 use Rattle.fields.specs.Answers.{records_of, leading, points_from, points_of, point_found}
 use Rattle.fields.proofs.Parts.{key_whole}
 use Rattle.image.specs.Image.{knows}
-use Rattle.image.specs.working.Keys.{keys_in_order, is_found, known_in}
+use Rattle.image.specs.working.Keys.{keys_in_order, known_in}
 use Rattle.image.proofs.Keys.{order_keys, same_kind}
 use Rattle.image.proofs.Known.{known_keys, known_high, found_point, points_behind, points_2}
 use Rattle.faults.specs.declared.ImageRule.{ImageRule}
-use Rattle.faults.specs.declared.ImageRule.TheVariants.{FirstKind, OutOfOrder, Kind, Length, Cut, NoRecord, NoPoint, UnknownPoint, NoFault}
-use Rattle.faults.specs.declared.ImageFault.{ImageFault}
+use Rattle.faults.specs.declared.ImageRule.TheVariants.{FirstKind, OutOfOrder, Kind, Length, Cut, NoRecord, NoPoint, UnknownPoint}
 use Rattle.faults.specs.declared.Walk.{Walk}
 use Rattle.faults.specs.Images.{of_whole, behind, own_rules, follows, record_rules, record_rule, broken_rule, end_faults, faults_behind, fault_from}
-use Rattle.faults.specs.working.Walking.{own_rule, point_rule, place_rule, point_rules, Fine, Stage, further, Standing}
+use Rattle.faults.specs.working.Walking.{own_rule, point_rule, place_rule, point_rules, Fine, Stage, further, fault_there, Standing}
 use Rattle.faults.proofs.Named.{Comes, quiet, loud, comes, passes, passed, named_first}
 use Rattle.faults.proofs.Lists.{how_many_law, one_more, no_more, follows_last, flatten_more}
-use Rattle.faults.proofs.Soundness.{is_fault, clear, none_fine, still_fine}
+use Rattle.faults.proofs.Soundness.{clear, none_fine, still_fine}
 
 -- the first record, or the last before another
 pub first_follows : (before : List (List ℕ)) (r : List ℕ) → length before ≡ 0 → true ≡ follows before r
@@ -106,21 +106,21 @@ module _ (image : List ℕ) (before : List (List ℕ)) (walk : Walk) (s : Stage 
             ∙ ap (λ (bs : List (List ℕ)). ltb 0 (how_many (is_point a) bs)) (sym b))
 
     -- by the points before it
-    pub point_there : (key : Key) → key ≡ key_of r → point_rule key.kind walk.points (is_found (point_found key.point image)) ≡ (first_of point_rules before r else NoFault)
+    pub point_there : (key : Key) → key ≡ key_of r → point_rule key.kind walk.points (is_some (point_found key.point image)) ≡ (first_of point_rules before r else None)
     unfolding point_rule
     point_there key k =
         rw (same_kind r key k, s.points_counted)
-        (if_both (λ (x y : ImageRule). x ≡ y) (is_kind 2 r && leb 8 n) (λ t. refl) (λ t.
-        if_both (λ (x y : ImageRule). x ≡ y) (leb 3 (kind_of r) && eqb n 0) (λ u. refl) (λ u. ap (λ (v : Bool). when v then UnknownPoint else NoFault) (last_test u))))
+        (if_both (λ (x y : Option ImageRule). x ≡ y) (is_kind 2 r && leb 8 n) (λ t. refl) (λ t.
+        if_both (λ (x y : Option ImageRule). x ≡ y) (leb 3 (kind_of r) && eqb n 0) (λ u. refl) (λ u. ap (λ (v : Bool). when v then Some UnknownPoint else None) (last_test u))))
       where
         n : ℕ
         n = how_many (is_kind 2) before
 
         last_test : (leb 3 (kind_of r) && eqb (how_many (is_kind 2) before) 0) ≡ false
-            → (leb 4 (kind_of r) && not (is_found (point_found key.point image))) ≡ not (knows before r)
+            → (leb 4 (kind_of r) && not (is_some (point_found key.point image))) ≡ not (knows before r)
         last_test u = by_test (leb 4 (kind_of r)) refl
           where
-            by_test : (t : Bool) → leb 4 (kind_of r) ≡ t → (t && not (is_found (point_found key.point image))) ≡ not (knows before r)
+            by_test : (t : Bool) → leb 4 (kind_of r) ≡ t → (t && not (is_some (point_found key.point image))) ≡ not (knows before r)
             by_test true e =
                 let h = leb-true 4 (kind_of r) e in
                 let other : how_many (is_kind 2) before ≡ 0 → ⊥ = eqb-false (how_many (is_kind 2) before) 0 (rw (le-leb 3 (kind_of r) (omega arith)) at u) in
@@ -131,11 +131,11 @@ module _ (image : List ℕ) (before : List (List ℕ)) (walk : Walk) (s : Stage 
             by_test false e = sym (unfold knows in rw e)
 
     -- the same by all that stands before it
-    pub place_order : follows before r ≡ false → OutOfOrder ≡ place_rule before r
+    pub place_order : follows before r ≡ false → Some OutOfOrder ≡ place_rule before r
     unfolding place_rule
     place_order e = sym (rw e)
 
-    pub place_points : follows before r ≡ true → (first_of point_rules before r else NoFault) ≡ place_rule before r
+    pub place_points : follows before r ≡ true → (first_of point_rules before r else None) ≡ place_rule before r
     unfolding place_rule
     place_points e = sym (rw e)
 
@@ -144,23 +144,24 @@ module _ (image : List ℕ) (before : List (List ℕ)) (walk : Walk) (s : Stage 
       headless : (eqb walk.passed 0 && not (eqb key.kind 1)) ≡ (eqb (length before) 0 && not (is_kind 1 r))
       headless = rw (s.counted, same_kind r key k)
 
-      pub rule_head : (eqb walk.passed 0 && not (eqb key.kind 1)) ≡ true → FirstKind ≡ record_rule before r
+      pub rule_head : (eqb walk.passed 0 && not (eqb key.kind 1)) ≡ true → Some FirstKind ≡ record_rule before r
       unfolding record_rule
       rule_head e = sym (rw (sym headless ∙ e))
 
       module _ (h : (eqb walk.passed 0 && not (eqb key.kind 1)) ≡ false) where
-        pub rule_place : own_rule r ≡ NoFault → place_rule before r ≡ record_rule before r
+        pub rule_rest : (own rule : Option ImageRule) → own ≡ own_rule r → MatchOption own (rule ≡ place_rule before r) (λ broken. rule ≡ Some broken)
+            → rule ≡ record_rule before r
         unfolding record_rule own_rule place_rule
-        rule_place e = sym (rw (sym headless ∙ h) (passes (own_rules r) (place_rule before r) (passed is_fault (own_rules r) NoFault refl (ap is_fault e))))
-
-        pub rule_own : (own_rule r ≡ NoFault → ⊥) → own_rule r ≡ record_rule before r
-        unfolding record_rule own_rule place_rule
-        rule_own n = by_way (comes is_fault (own_rules r) NoFault refl)
+        rule_rest own rule o m = by_way own o m (comes is_some (own_rules r) None refl)
           where
-            by_way : Comes is_fault (own_rules r) NoFault → own_rule r ≡ record_rule before r
-            by_way (quiet all) = absurd (n (passes (own_rules r) NoFault all))
-            by_way (loud named) =
-                sym (rw (sym headless ∙ h) (named_first is_fault (λ (rule : ImageRule). rule) (own_rules r) NoFault (place_rule before r) refl named))
+            by_way : (own : Option ImageRule) → own ≡ own_rule r → MatchOption own (rule ≡ place_rule before r) (λ broken. rule ≡ Some broken)
+                → Comes is_some (own_rules r) None → rule ≡ record_rule before r
+            by_way None o m way =
+                m ∙ sym (rw (sym headless ∙ h) (passes (own_rules r) (place_rule before r) (passed is_some (own_rules r) None refl (ap is_some (sym o)))))
+            by_way (Some broken) o m (quiet all) = let none : Some broken ≡ None = o ∙ passes (own_rules r) None all in absurd (never (cc))
+            by_way (Some broken) o m (loud named) =
+                m ∙ o
+                ∙ sym (rw (sym headless ∙ h) (named_first is_some (λ (rule : Option ImageRule). rule) (own_rules r) None (place_rule before r) refl named))
 
     -- one record further
     points_further : (further image walk).points ≡ how_many (is_kind 2) more
@@ -171,7 +172,7 @@ module _ (image : List ℕ) (before : List (List ℕ)) (walk : Walk) (s : Stage 
         by_test true e = omega (arith, s.points_counted, how_many_law (is_kind 2) before (r ∷ []), one_more (is_kind 2) r e)
         by_test false e = omega (arith, s.points_counted, how_many_law (is_kind 2) before (r ∷ []), no_more (is_kind 2) r e)
 
-    further_stage : record_rule before r ≡ NoFault → Stage image more (further image walk)
+    further_stage : record_rule before r ≡ None → Stage image more (further image walk)
     unfolding record_rule further
     further_stage e =
         record {
@@ -182,7 +183,7 @@ module _ (image : List ℕ) (before : List (List ℕ)) (walk : Walk) (s : Stage 
           split = all_records ∙ sym (append_assoc before (r ∷ []) rest);
           last_whole = λ some. w;
           last_one = λ some q. follows_last before r q;
-          fine = still_fine before r s.fine (clear before r (passed is_fault (record_rules before r) NoFault refl (ap is_fault e)));
+          fine = still_fine before r s.fine (clear before r (passed is_some (record_rules before r) None refl (ap is_some e)));
         }
 
     module _ (d : fault_from image before (records_from image walk.at) ≡ fault_from image [] (records_of image)) where
@@ -190,10 +191,10 @@ module _ (image : List ℕ) (before : List (List ℕ)) (walk : Walk) (s : Stage 
       unfolding fault_from
       from_here = rw (from_more image walk.at w) at d
 
-      pub stands_further : record_rule before r ≡ NoFault → Standing image (further image walk)
+      pub stands_further : record_rule before r ≡ None → Standing image (further image walk)
       unfolding record_rule further
       stands_further e =
-          let all = passed is_fault (record_rules before r) NoFault refl (ap is_fault e) in
+          let all = passed is_some (record_rules before r) None refl (ap is_some e) in
           record {
             before = more;
             stage = further_stage e;
@@ -201,26 +202,26 @@ module _ (image : List ℕ) (before : List (List ℕ)) (walk : Walk) (s : Stage 
           }
 
       -- the record is at fault
-      pub found_there : (rule : ImageRule) → rule ≡ record_rule before r → (rule ≡ NoFault → ⊥)
-          → ◌≡◌ {A = ImageFault} (record { rule = rule; number = walk.passed + 1; place = walk.at }) (fault_from image [] (records_of image))
+      pub found_there : (rule : ImageRule) → Some rule ≡ record_rule before r → Some (fault_there walk rule) ≡ fault_from image [] (records_of image)
       unfolding record_rule
-      found_there rule e n = by_way (comes is_fault (record_rules before r) NoFault refl)
+      found_there rule e = by_way (comes is_some (record_rules before r) None refl)
         where
-          by_way : Comes is_fault (record_rules before r) NoFault
-              → ◌≡◌ {A = ImageFault} (record { rule = rule; number = walk.passed + 1; place = walk.at }) (fault_from image [] (records_of image))
-          by_way (quiet all) = absurd (n (e ∙ passes (record_rules before r) NoFault all))
+          by_way : Comes is_some (record_rules before r) None
+              → Some (fault_there walk rule) ≡ fault_from image [] (records_of image)
+          by_way (quiet all) = let none : Some rule ≡ None = e ∙ passes (record_rules before r) None all in absurd (never (cc))
           by_way (loud named) =
-              rw (s.counted, s.place, e)
-              (sym (named_first is_fault (behind before) (record_rules before r) NoFault (fault_from image more rest) refl named) ∙ from_here)
+              let here : Some (fault_there walk rule) ≡ behind before (Some rule) = rw (s.counted, s.place) in
+              here ∙ ap (behind before) e
+              ∙ (sym (named_first is_some (behind before) (record_rules before r) None (fault_from image more rest) refl named) ∙ from_here)
 
   -- at the end of the records
   pub end_there : whole_at image walk.at ≡ false → fault_from image before (records_from image walk.at) ≡ fault_from image [] (records_of image)
-      → (first_of end_faults image before else of_whole NoFault) ≡ fault_from image [] (records_of image)
+      → (first_of end_faults image before else None) ≡ fault_from image [] (records_of image)
   unfolding fault_from
   end_there e d = rw (from_end image walk.at e) at d
 
   pub end_left : walk.at < length image → (rule : ImageRule) → rule ≡ broken_rule (drop walk.at image)
-      → ◌≡◌ {A = ImageFault} (record { rule = rule; number = walk.passed + 1; place = walk.at }) (first_of end_faults image before else of_whole NoFault)
+      → Some (fault_there walk rule) ≡ (first_of end_faults image before else None)
   end_left h rule e =
       rw (e, s.counted, s.place)
       (sym (rw (lt-ltb 0 (length (drop (1 + length (flatten before)) image)) (omega (arith, s.place, length-drop (1 + length (flatten before)) image)))))
@@ -229,15 +230,15 @@ module _ (image : List ℕ) (before : List (List ℕ)) (walk : Walk) (s : Stage 
     none_left : ltb 0 (length (drop (1 + length (flatten before)) image)) ≡ false
     none_left = le-ltb 0 (length (drop (1 + length (flatten before)) image)) (omega (arith, s.place, length-drop (1 + length (flatten before)) image))
 
-    pub end_empty : walk.passed ≡ 0 → of_whole NoRecord ≡ (first_of end_faults image before else of_whole NoFault)
+    pub end_empty : walk.passed ≡ 0 → of_whole NoRecord ≡ (first_of end_faults image before else None)
     end_empty z = sym (rw (none_left, eq-eqb (length before) 0 (sym s.counted ∙ z)))
 
     module _ (some : walk.passed ≡ 0 → ⊥) where
-      pub end_pointless : walk.points ≡ 0 → of_whole NoPoint ≡ (first_of end_faults image before else of_whole NoFault)
+      pub end_pointless : walk.points ≡ 0 → of_whole NoPoint ≡ (first_of end_faults image before else None)
       end_pointless z =
           sym (rw (none_left, ne_eqb (length before) 0 (λ e. some (s.counted ∙ e)), eq-eqb (how_many (is_kind 2) before) 0 (sym s.points_counted ∙ z)))
 
-      pub end_none : (walk.points ≡ 0 → ⊥) → of_whole NoFault ≡ (first_of end_faults image before else of_whole NoFault)
+      pub end_none : (walk.points ≡ 0 → ⊥) → None ≡ (first_of end_faults image before else None)
       end_none n =
           sym (rw (
             none_left,
@@ -265,31 +266,41 @@ begins image =
       decides = refl;
     }
 
--- octets that are no whole record, where they stand
-module _ (s : List ℕ) (at : ℕ) where
-  pub cut_short : length s < at + 3 → Cut ≡ broken_rule (drop at s)
+-- octets that are no whole record, by the first three of them
+module _ (s first : List ℕ) (e : first ≡ take 3 s) where
+  pub cut_short : (length first ≡ 3 → ⊥) → Cut ≡ broken_rule s
   unfolding broken_rule
-  cut_short h = sym (rw (lt-ltb (length (drop at s)) 3 (omega (arith, length-drop at s))))
+  cut_short n = let few : length s < 3 = by_test (ltb (length s) 3) refl in sym (rw (lt-ltb (length s) 3 few))
+    where
+      by_test : (t : Bool) → ltb (length s) 3 ≡ t → length s < 3
+      by_test true h = ltb-true (length s) 3 h
+      by_test false h = absurd (n (omega (arith, ap length e, length-take 3 s, ltb-false (length s) 3 h)))
 
-  module _ (room : at + 3 ≤ length s) where
-    long_enough : ltb (length (drop at s)) 3 ≡ false
-    long_enough = le-ltb (length (drop at s)) 3 (omega (arith, length-drop at s))
+  module _ (l : length first ≡ 3) (n : ℕ) (k : n ≡ length_of (get_or first 2 0)) where
+    room : 3 ≤ length s
+    room = omega (arith, ap length e, length-take 3 s)
 
-    kind_is : kind_of (drop at s) ≡ get_or s (at + 2) 0
-    kind_is = get_or-drop at s 2 0
+    long_enough : ltb (length s) 3 ≡ false
+    long_enough = le-ltb (length s) 3 room
 
-    two_first : take 2 (drop at s) ≡ get_or s at 0 ∷ get_or s (at + 1) 0 ∷ []
-    two_first = part_at 2 s at (omega arith) ∙ rw add-one
+    same : (i : ℕ) → i < 3 → get_or first i 0 ≡ get_or s i 0
+    same i h = rw e (get_or-take 3 s i 0 h)
 
-    pub no_kind : length_of (get_or s (at + 2) 0) ≡ 0 → Kind ≡ broken_rule (drop at s)
+    length_is : length_of (kind_of s) ≡ n
+    length_is = sym (k ∙ ap length_of (same 2 (omega arith)))
+
+    two_first : take 2 s ≡ get_or first 0 0 ∷ get_or first 1 0 ∷ []
+    two_first = part_at 2 s 0 (omega (arith, room)) ∙ rw (same 0 (omega arith), same 1 (omega arith))
+
+    pub no_kind : n ≡ 0 → Kind ≡ broken_rule s
     unfolding broken_rule
-    no_kind z = sym (rw (long_enough, kind_is, eq-eqb (length_of (get_or s (at + 2) 0)) 0 z))
+    no_kind z = sym (rw (long_enough, length_is, z))
 
-    module _ (n : ℕ) (l : n ≡ length_of (get_or s (at + 2) 0)) (some : n ≡ 0 → ⊥) where
-      pub other_length : (high_first (get_or s at 0 ∷ get_or s (at + 1) 0 ∷ []) ≡ n → ⊥) → Length ≡ broken_rule (drop at s)
+    module _ (some : n ≡ 0 → ⊥) where
+      pub other_length : (high_first (get_or first 0 0 ∷ get_or first 1 0 ∷ []) ≡ n → ⊥) → Length ≡ broken_rule s
       unfolding broken_rule
-      other_length d = sym (rw (long_enough, kind_is, two_first, ← l, ne_eqb n 0 some, ne_eqb (high_first (get_or s at 0 ∷ get_or s (at + 1) 0 ∷ [])) n d))
+      other_length d = sym (rw (long_enough, length_is, two_first, ne_eqb n 0 some, ne_eqb _ n d))
 
-      pub cut_behind : high_first (get_or s at 0 ∷ get_or s (at + 1) 0 ∷ []) ≡ n → Cut ≡ broken_rule (drop at s)
+      pub cut_behind : high_first (get_or first 0 0 ∷ get_or first 1 0 ∷ []) ≡ n → Cut ≡ broken_rule s
       unfolding broken_rule
-      cut_behind d = sym (rw (long_enough, kind_is, two_first, ← l, ne_eqb n 0 some, eq-eqb (high_first (get_or s at 0 ∷ get_or s (at + 1) 0 ∷ [])) n d))
+      cut_behind d = sym (rw (long_enough, length_is, two_first, ne_eqb n 0 some, eq-eqb _ n d))

@@ -4,16 +4,14 @@
 ghost use Rattle.std.specs.Prelude.{◌≡◌, true, not, ◌&&◌, [], ◌≤◌, ◌<◌, leb, eqb, drop};
 ghost use Rattle.label.specs.Calendar.{leap, month_length};
 ghost use Rattle.records.specs.Records.{whole_at, record_at};
-ghost use Rattle.fields.specs.working.Key.{key_of};
-ghost use Rattle.fields.specs.Answers.{records_of, point_found};
-ghost use Rattle.image.specs.working.Keys.{is_found};
+ghost use Rattle.fields.specs.Answers.{records_of};
 ghost use Rattle.faults.specs.Labels.{time_fault, label_fault_a, label_fault_b};
 ghost use Rattle.faults.specs.Images.{of_whole, broken_rule, fault_from, image_fault};
-ghost use Rattle.faults.specs.working.Walking.{Tells, own_rule, first_wrong, dates_rule, point_rule, further, Room, FollowsThere, PlaceThere, RuleThere, EndThere};
+ghost use Rattle.faults.specs.working.Walking.{unless, own_rule, dates_rule, point_rule, further, fault_there, Room, FollowsThere, PlaceThere, RuleThere, EndThere};
 
-use address::PointAddress;
-use fields::{Dates, Key};
+use fields::Dates;
 use label::{DateTime, LabelA, LabelB};
+use octets::Number;
 
 // The part of a label that is wrong, in the order in which they are looked at; those of a label b's front come before the rest.
 #[derive(Clone, Copy)]
@@ -30,7 +28,6 @@ pub enum LabelFault {
     Minute,
     Second,
     Millisecond,
-    NoFault,
 }
 
 // The rule that is broken: of the whole image; of a record, given those before it; of octets that are no whole record; of the records' end.
@@ -55,25 +52,28 @@ pub enum ImageRule {
     Cut,
     NoRecord,
     NoPoint,
-    NoFault,
 }
 
-// The record at fault: its number from 1 and the place of its first octet. Both are 0 for the image as a whole.
+// A record's number, from 1 on, and the place of its first octet.
+#[derive(Clone, Copy)]
+pub struct RecordPlace {
+    pub number: usize,
+    pub at: usize,
+}
+
+// What is wrong with an image: the rule that is broken, and the record at fault; none where the image as a whole is.
 #[derive(Clone, Copy)]
 pub struct ImageFault {
     pub rule: ImageRule,
-    pub number: usize,
-    pub place: usize,
+    pub place: Option<RecordPlace>,
 }
 
 // Whether the month of a date has its day. The label at midnight is asked, since all else in it is right.
+#[tactic(auto, using(crate::proofs::Parts::day_alone, crate::proofs::Parts::day_late))]
 fn has_day(time: DateTime) -> bool
     requires { (time.year ≤ 99) × (1 ≤ time.month) × (time.month ≤ 12) }
     ensures { result ≡ (leb 1 time.day && leb time.day (month_length (leap time.year) time.month)) }
 {
-    if 31 < time.day {
-        return false;
-    }
     let midnight = LabelA {
         minute: 0,
         hour: 0,
@@ -81,180 +81,122 @@ fn has_day(time: DateTime) -> bool
         month: time.month,
         year: time.year,
     };
-    midnight.is_valid()
+    time.day <= 31 && midnight.is_valid()
 }
 
-fn time_fault(time: DateTime) -> LabelFault
+#[tactic(auto, unfolding(crate::specs::Labels::time_fault))]
+fn time_fault(time: DateTime) -> Option<LabelFault>
     ensures { result ≡ time_fault time }
 {
     if 99 < time.year {
-        return LabelFault::Year;
+        Some(LabelFault::Year)
+    } else if time.month < 1 || 12 < time.month {
+        Some(LabelFault::Month)
+    } else if !has_day(time) {
+        Some(LabelFault::Day)
+    } else if 23 < time.hour {
+        Some(LabelFault::Hour)
+    } else if 59 < time.minute {
+        Some(LabelFault::Minute)
+    } else {
+        None
     }
-    if time.month < 1 {
-        return LabelFault::Month;
-    }
-    if 12 < time.month {
-        return LabelFault::Month;
-    }
-    if has_day(time) {
-        if 23 < time.hour {
-            return LabelFault::Hour;
-        }
-        if 59 < time.minute {
-            return LabelFault::Minute;
-        }
-        return LabelFault::NoFault;
-    }
-    LabelFault::Day
 }
 
 // The first part of a label a that is wrong.
-pub fn of_label_a(label: LabelA) -> LabelFault
+#[tactic(auto, unfolding(crate::specs::Labels::label_fault_a))]
+pub fn of_label_a(label: LabelA) -> Option<LabelFault>
     ensures { result ≡ label_fault_a label }
 {
     if label.minute / 128 % 2 != 0 {
-        return LabelFault::Iv;
+        Some(LabelFault::Iv)
+    } else if label.minute / 64 % 2 != 0 {
+        Some(LabelFault::Tis)
+    } else if label.hour / 32 % 4 != 0 {
+        Some(LabelFault::HourReserved)
+    } else if label.month / 16 % 16 != 0 {
+        Some(LabelFault::EtiPti)
+    } else if label.year / 128 % 2 != 0 {
+        Some(LabelFault::YearReserved)
+    } else {
+        time_fault(label.date_time())
     }
-    if label.minute / 64 % 2 != 0 {
-        return LabelFault::Tis;
-    }
-    if label.hour / 32 % 4 != 0 {
-        return LabelFault::HourReserved;
-    }
-    if label.month / 16 % 16 != 0 {
-        return LabelFault::EtiPti;
-    }
-    if label.year / 128 % 2 != 0 {
-        return LabelFault::YearReserved;
-    }
-    time_fault(label.date_time())
 }
 
 // The first part of a label b that is wrong: second and millisecond, then its label a.
-pub fn of_label_b(label: LabelB) -> LabelFault
+#[tactic(auto, unfolding(crate::specs::Labels::label_fault_b))]
+pub fn of_label_b(label: LabelB) -> Option<LabelFault>
     ensures { result ≡ label_fault_b label }
 {
     if 59 < label.second() {
-        return LabelFault::Second;
-    }
-    if 999 < label.millisecond() {
-        return LabelFault::Millisecond;
-    }
-    of_label_a(label.a)
-}
-
-fn is_none(rule: ImageRule) -> bool
-    ensures { Tells rule result }
-{
-    match rule {
-        ImageRule::NoFault => true,
-        _ => false,
+        Some(LabelFault::Second)
+    } else if 999 < label.millisecond() {
+        Some(LabelFault::Millisecond)
+    } else {
+        of_label_a(label.a)
     }
 }
 
-fn whole(rule: ImageRule) -> ImageFault
+// A fault of the image as a whole.
+fn of_whole(rule: ImageRule) -> Option<ImageFault>
     ensures { result ≡ of_whole rule }
 {
-    ImageFault {
-        rule,
-        number: 0,
-        place: 0,
-    }
+    Some(ImageFault { rule, place: None })
 }
 
-// Of two parts of a record the first that is wrong, each with the rule that it breaks.
-fn first_wrong(first: bool, second: bool, one: ImageRule, other: ImageRule) -> ImageRule
-    ensures { result ≡ first_wrong first second one other }
+// A rule that is broken unless something holds.
+fn unless(holds: bool, rule: ImageRule) -> Option<ImageRule>
+    ensures { result ≡ unless holds rule }
 {
-    if first {
-        if second {
-            return ImageRule::NoFault;
-        }
-        return other;
-    }
-    one
+    if holds { None } else { Some(rule) }
 }
 
-fn dates_rule(found: Option<Dates>) -> ImageRule
+#[tactic(auto, unfolding(crate::specs::working::Walking::dates_rule))]
+fn dates_rule(found: Option<Dates>) -> Option<ImageRule>
     ensures { result ≡ dates_rule found }
 {
-    match found {
-        Some(dates) => first_wrong(
-            dates.first.is_valid(),
-            dates.second.is_valid(),
-            ImageRule::FirstDate,
-            ImageRule::SecondDate,
-        ),
-        None => ImageRule::NoFault,
-    }
+    let dates = found?;
+    unless(dates.first.is_valid(), ImageRule::FirstDate).or(unless(
+        dates.second.is_valid(),
+        ImageRule::SecondDate,
+    ))
 }
 
 // The record at a place by itself.
-fn own_rule(image: &[u8], at: usize, key: Key) -> ImageRule
-    requires { (whole_at image.now at ≡ true) × (key ≡ key_of (record_at image.now at)) }
+fn own_rule(image: &[u8], at: usize) -> Option<ImageRule>
+    requires { whole_at image.now at ≡ true }
     ensures { result ≡ own_rule (record_at image.now at) }
 {
-    let kind = key.kind;
-    if kind == 2 {
-        if key.point.0 == 0 {
-            return ImageRule::PointZero;
-        }
-        return ImageRule::NoFault;
-    }
-    if kind == 3 {
-        return dates_rule(fields::dates_at(image, at));
-    }
-    if kind == 4 {
-        return first_wrong(
+    let key = fields::key_at(image, at);
+    match key.kind {
+        2 => unless(key.point.0 != 0, ImageRule::PointZero),
+        3 => dates_rule(fields::dates_at(image, at)),
+        4 => unless(
             image::is_reading_record(key.record_address),
-            key.label.a.is_valid(),
             ImageRule::ReadingAddress,
-            ImageRule::ReadingLabel,
-        );
-    }
-    if kind == 5 {
-        return first_wrong(
+        )
+        .or(unless(key.label.a.is_valid(), ImageRule::ReadingLabel)),
+        5 => unless(
             image::is_event_record(key.record_address),
-            key.label.is_valid(),
             ImageRule::EventAddress,
-            ImageRule::EventLabel,
-        );
-    }
-    ImageRule::NoFault
-}
-
-fn is_among(image: &[u8], point: PointAddress) -> bool
-    ensures { result ≡ is_found (point_found point image.now) }
-{
-    match fields::point_of(image, point) {
-        Some(_) => true,
-        None => false,
+        )
+        .or(unless(key.label.is_valid(), ImageRule::EventLabel)),
+        _ => None,
     }
 }
 
 // By the number of points before a record of a kind, and whether the point that it names is known.
-fn point_rule(kind: u8, points: usize, known: bool) -> ImageRule
+#[tactic(auto, unfolding(crate::specs::working::Walking::point_rule))]
+fn point_rule(kind: u8, points: usize, known: bool) -> Option<ImageRule>
     ensures { result ≡ point_rule kind points known }
 {
-    if kind < 2 {
-        return ImageRule::NoFault;
-    }
     if kind == 2 {
-        if 8 <= points {
-            return ImageRule::NinthPoint;
-        }
-        return ImageRule::NoFault;
+        unless(points < 8, ImageRule::NinthPoint)
+    } else if 3 <= kind && points == 0 {
+        Some(ImageRule::NoPointBefore)
+    } else {
+        unless(kind < 4 || known, ImageRule::UnknownPoint)
     }
-    if points == 0 {
-        return ImageRule::NoPointBefore;
-    }
-    if kind < 4 {
-        return ImageRule::NoFault;
-    }
-    if known {
-        return ImageRule::NoFault;
-    }
-    ImageRule::UnknownPoint
 }
 
 // Where a walk over the records stands: how many are passed, how many of them are points, where the last of them stands, and the place behind it.
@@ -266,76 +208,87 @@ struct Walk {
     at: usize,
 }
 
+impl Walk {
+    // A fault of the record where the walk stands.
+    fn fault(self, rule: ImageRule) -> ImageFault
+        requires { self.passed < self.at }
+        ensures { result ≡ fault_there self rule }
+    {
+        ImageFault {
+            rule,
+            place: Some(RecordPlace {
+                number: self.passed + 1,
+                at: self.at,
+            }),
+        }
+    }
+
+    // The walk one record further.
+    #[tactic(auto, unfolding(crate::specs::working::Walking::further))]
+    fn further(self, image: &[u8]) -> Walk
+        requires { Room image.now self }
+        ensures { result ≡ further image.now self }
+    {
+        let next = Walk {
+            passed: self.passed + 1,
+            last: self.at,
+            at: records::after(image, self.at),
+            ..self
+        };
+        if records::kind_at(image, self.at) == 2 {
+            Walk {
+                points: self.points + 1,
+                ..next
+            }
+        } else {
+            next
+        }
+    }
+}
+
 // The record where the walk stands, in order behind the last one; the first has none before it.
-fn does_follow(image: &[u8], walk: Walk, key: Key) -> bool
-    requires { key ≡ key_of (record_at image.now walk.at) }
+fn does_follow(image: &[u8], walk: Walk) -> bool
+    requires { whole_at image.now walk.at ≡ true }
     ensures { FollowsThere image.now walk result }
 {
-    if walk.passed == 0 {
-        return true;
-    }
-    let last = fields::key_at(image, walk.last);
-    image::in_order(last, key)
+    walk.passed == 0
+        || image::in_order(
+            fields::key_at(image, walk.last),
+            fields::key_at(image, walk.at),
+        )
 }
 
 // The same record by all that stands before it.
-fn place_rule(image: &[u8], walk: Walk, key: Key) -> ImageRule
-    requires { (whole_at image.now walk.at ≡ true) × (key ≡ key_of (record_at image.now walk.at)) }
+fn place_rule(image: &[u8], walk: Walk) -> Option<ImageRule>
+    requires { whole_at image.now walk.at ≡ true }
     ensures { PlaceThere image.now walk result }
 {
-    if does_follow(image, walk, key) {
-        return point_rule(key.kind, walk.points, is_among(image, key.point));
+    let key = fields::key_at(image, walk.at);
+    if does_follow(image, walk) {
+        let known = fields::point_of(image, key.point).is_some();
+        point_rule(key.kind, walk.points, known)
+    } else {
+        Some(ImageRule::OutOfOrder)
     }
-    ImageRule::OutOfOrder
 }
 
 // The first record is of kind 1.
 fn lacks_head(passed: usize, kind: u8) -> bool
     ensures { result ≡ (eqb passed 0 && not (eqb kind 1)) }
 {
-    if passed == 0 {
-        return kind != 1;
-    }
-    false
+    passed == 0 && kind != 1
 }
 
 // The rule that the record where the walk stands breaks, if any.
-fn rule_there(image: &[u8], walk: Walk) -> ImageRule
+fn rule_there(image: &[u8], walk: Walk) -> Option<ImageRule>
     requires { whole_at image.now walk.at ≡ true }
     ensures { RuleThere image.now walk result }
 {
-    let at = walk.at;
-    let key = fields::key_at(image, at);
+    let key = fields::key_at(image, walk.at);
     if lacks_head(walk.passed, key.kind) {
-        return ImageRule::FirstKind;
-    }
-    let own = own_rule(image, at, key);
-    if is_none(own) {
-        return place_rule(image, walk, key);
-    }
-    own
-}
-
-// The walk one record further.
-fn step(image: &[u8], walk: Walk) -> Walk
-    requires { Room image.now walk }
-    ensures { result ≡ further image.now walk }
-{
-    let at = walk.at;
-    let next = records::after(image, at);
-    if records::kind_at(image, at) == 2 {
-        return Walk {
-            passed: walk.passed + 1,
-            points: walk.points + 1,
-            last: at,
-            at: next,
-        };
-    }
-    Walk {
-        passed: walk.passed + 1,
-        points: walk.points,
-        last: at,
-        at: next,
+        Some(ImageRule::FirstKind)
+    } else {
+        own_rule(image, walk.at).or_else(|| place_rule(image, walk))
     }
 }
 
@@ -343,46 +296,37 @@ fn step(image: &[u8], walk: Walk) -> Walk
 fn broken_rule(image: &[u8], at: usize) -> ImageRule
     ensures { result ≡ broken_rule (drop at image.now) }
 {
-    if image.len() < 3 {
+    let [high, low, kind] = octets::part(image, at, 3) else {
         return ImageRule::Cut;
-    }
-    if image.len() - 3 < at {
-        return ImageRule::Cut;
-    }
-    let length = records::length_of(image[at + 2]);
+    };
+    let length = records::length_of(*kind);
     if length == 0 {
-        return ImageRule::Kind;
+        ImageRule::Kind
+    } else if u16::from_high_first([*high, *low]) != length {
+        ImageRule::Length
+    } else {
+        ImageRule::Cut
     }
-    if octets::high_first_2(image[at], image[at + 1]) != length {
-        return ImageRule::Length;
-    }
-    ImageRule::Cut
 }
 
 // The end of the whole records: what is left there, or what is missing.
-fn at_end(image: &[u8], walk: Walk) -> ImageFault
+fn at_end(image: &[u8], walk: Walk) -> Option<ImageFault>
     requires { walk.passed < walk.at }
     ensures { EndThere image.now walk result }
 {
-    let at = walk.at;
-    if at < image.len() {
-        return ImageFault {
-            rule: broken_rule(image, at),
-            number: walk.passed + 1,
-            place: at,
-        };
+    if walk.at < image.len() {
+        Some(walk.fault(broken_rule(image, walk.at)))
+    } else if walk.passed == 0 {
+        of_whole(ImageRule::NoRecord)
+    } else if walk.points == 0 {
+        of_whole(ImageRule::NoPoint)
+    } else {
+        None
     }
-    if walk.passed == 0 {
-        return whole(ImageRule::NoRecord);
-    }
-    if walk.points == 0 {
-        return whole(ImageRule::NoPoint);
-    }
-    whole(ImageRule::NoFault)
 }
 
-// The walk over the records.
-fn first_fault(image: &[u8]) -> ImageFault
+// The walk over the records. A loop, since the end of the records needs the place where the walk came to.
+fn first_fault(image: &[u8]) -> Option<ImageFault>
     ensures { result ≡ fault_from image.now [] (records_of image.now) }
 {
     let mut walk = Walk {
@@ -392,29 +336,24 @@ fn first_fault(image: &[u8]) -> ImageFault
         at: 1,
     };
     while records::is_whole(image, walk.at) {
-        let rule = rule_there(image, walk);
-        if is_none(rule) {
-            walk = step(image, walk);
-        } else {
-            return ImageFault {
-                rule,
-                number: walk.passed + 1,
-                place: walk.at,
-            };
+        if let Some(rule) = rule_there(image, walk) {
+            return Some(walk.fault(rule));
         }
+        walk = walk.further(image);
     }
     at_end(image, walk)
 }
 
 // The first fault of an image: the record, its place and the rule that it breaks.
-pub fn of_image(image: &[u8]) -> ImageFault
+#[tactic(auto, unfolding(crate::specs::Images::image_fault))]
+pub fn of_image(image: &[u8]) -> Option<ImageFault>
     ensures { result ≡ image_fault image.now }
 {
     if 65535 < image.len() {
-        return whole(ImageRule::TooLong);
+        of_whole(ImageRule::TooLong)
+    } else if octets::octet_at(image, 0) != 1 {
+        of_whole(ImageRule::Version)
+    } else {
+        first_fault(image)
     }
-    if octets::octet_at(image, 0) != 1 {
-        return whole(ImageRule::Version);
-    }
-    first_fault(image)
 }

@@ -1,25 +1,29 @@
 -- The single parts of an image: the points behind the first record, as a loop over their places comes to them, and how many octets they take.
 -- Each takes nine octets, so the next stands nine further. Assumes nothing.
-use Rattle.std.specs.Prelude.{Some, None}
+use Rattle.std.specs.Prelude.{Some, None, Option, map, option_map}
+use Rattle.std.specs.List.{find, enumerate_from}
 use Prim.Native.Nat.{ℕ, ◌+◌, ◌-◌, ◌*◌, ◌≤◌}
-use mathlib.Core.Bool.{Bool, true, false, ◌&&◌}
+use mathlib.Core.Bool.{Bool, true, false, cond}
 use mathlib.Core.List.{List, [], ◌∷◌, flatten}
 use mathlib.Core.Path.{◌≡◌, refl, ap, sym, ◌∙◌}
 use native.Mathlib.Omega.{arith}
-use borrow.Author.Tests.{eqb-true, leb-true, eq-eqb, ne_eqb, le-leb}
-use lib.Dec.{leb, eqb}
+use borrow.Author.Tests.{eqb-true, ne_eqb}
+use lib.Dec.{eqb}
 use lib.ListN.{length, take, drop, length-append}
-use Rattle.octets.proofs.Choice.{either, refuted}
-use Rattle.octets.proofs.Conditions.{and_left, and_right}
+use Rattle.std.proofs.lemmas.List.{length-map}
+use Rattle.octets.specs.Choice.{when◌then◌else◌}
+use Rattle.octets.proofs.Choice.{either}
 use Rattle.label.specs.Label.{label_a_at, label_b_at}
 use Rattle.label.proofs.Label.{label_a_cut, label_b_cut}
 use Rattle.records.specs.Records.{length_of, kind_of, whole_at, record_at, records_from, kind_at, place_after}
 use Rattle.records.proofs.Records.{from_end, from_more, kind_there, kind_whole, kind_facts, not_kind}
 use Rattle.records.proofs.Places.{Lie, lie, none, one}
-use Rattle.fields.specs.Parts.{link_of, date_of, maker_of, product_of, point_of, password_of, first_date, second_date, value_of, quality_of, spa_of, spq_of, event_label, is_kind}
-use Rattle.fields.specs.Answers.{identity_found, leading, points_from, points_of, point_in, dates_at, dates_place, dates_found}
+use Rattle.address.specs.declared.PointAddress.{PointAddress}
+use Rattle.fields.specs.declared.Point.{Point}
+use Rattle.fields.specs.Parts.{point_of, password_of, first_date, second_date, spa_of, spq_of, event_label, is_kind}
+use Rattle.fields.specs.Answers.{leading, points_from, points_of, point_in, point_found, dates_at, dates_place, dates_found}
 use Rattle.fields.specs.Calls.{value_found, event_found}
-use Rattle.fields.proofs.Parts.{cut, cut_out}
+use Rattle.fields.specs.working.Standing.{StandsThere, entry, entries_from}
 
 module _ (s : List ℕ) (at : ℕ) where
   pub points-more : kind_at s at ≡ 2 → points_from s at ≡ record_at s at ∷ points_from s (at + 9)
@@ -61,33 +65,49 @@ pub points-fit : (s : List ℕ) (at : ℕ) → Fit s at (points_from s at)
 unfolding points_from
 points-fit s at = fit (lie s at)
 
--- the point looked for, as a loop comes to it
-module _ (address number : ℕ) (s : List ℕ) (at : ℕ) where
-  pub point-end : (kind_at s at ≡ 2 → ⊥) → None ≡ point_in address number (points_from s at)
-  unfolding point_in
-  point-end n = sym (rw (points-end s at n))
+-- how the points are gone over: at a place where one stands it comes first, and the others stand nine further
+pub next_entry : (s : List ℕ) (at : ℕ) (r : List ℕ) → StandsThere 2 s at r → entries_from s at ≡ entry r ∷ entries_from s (at + 9)
+next_entry s at r t = rw (points-more s at t.is_kind, t.is_record)
 
-  pub point-hit : kind_at s at ≡ 2 → (let r = cut s at 9 in
-      point_of r ≡ address → Some (record { number = number; password = password_of r }) ≡ point_in address number (points_from s at))
-  unfolding point_in length_of
-  point-hit k a = let o = cut_out s at 2 k (omega arith) in sym (rw (points-more s at k, point_in, ← o.is_record, eq-eqb _ _ a))
+pub no_entry : (s : List ℕ) (at : ℕ) → (kind_at s at ≡ 2 → ⊥) → entries_from s at ≡ []
+no_entry s at n = rw (points-end s at n)
 
-  pub point-pass : kind_at s at ≡ 2 → (point_of (cut s at 9) ≡ address → ⊥)
-      → point_in address (number + 1) (points_from s (at + 9)) ≡ point_in address number (points_from s at)
-  unfolding point_in length_of
-  point-pass k n = let o = cut_out s at 2 k (omega arith) in sym (rw (points-more s at k, point_in, ← o.is_record, ne_eqb _ _ n))
+pub few_entries : (s : List ℕ) (at : ℕ) → length (entries_from s at) ≤ length s
+few_entries s at = omega (arith, length-map (points_from s at) entry, (points-fit s at).room-for-all)
 
--- what stands at a place of its kind, and that nothing else does
+pub entry_room : (s : List ℕ) (at : ℕ) (r : List ℕ) → StandsThere 2 s at r → at + 9 ≤ length s
+unfolding length_of
+entry_room s at r t = omega (arith, (kind_facts s at 2 t.is_kind (omega arith)).room_there)
+
+-- the point looked for is the first of them with its address
+abbrev pub point_of_entry : ℕ × (PointAddress × ℕ) → Point
+point_of_entry found = record { number = found.0 + 1; password = found.1.1 }
+
+pub found_first : (address passed : ℕ) (rs : List (List ℕ))
+    → option_map point_of_entry (find (λ p. eqb p.1.0.0 address) (enumerate_from passed (map entry rs))) ≡ point_in address (passed + 1) rs
+unfolding point_in
+found_first address passed [] = refl
+found_first address passed (r ∷ rs) = by_test (eqb (point_of r) address) _ _ (found_first address (passed + 1) rs)
+  where
+    by_test : (t : Bool) (found : Option (ℕ × (PointAddress × ℕ))) (answer : Option Point) → option_map point_of_entry found ≡ answer
+        → option_map point_of_entry (cond t (Some (passed, entry r)) found)
+        ≡ (when t then Some (record { number = passed + 1; password = password_of r }) else answer)
+    by_test true found answer e = refl
+    by_test false found answer e = e
+
+-- as a search over those of an image answered
+pub found_point : (address : PointAddress) (s : List ℕ) (at : ℕ) (found : Option (ℕ × (PointAddress × ℕ))) → at ≡ place_after s 1
+    → option_map (λ p. (p.0, p.1)) found ≡ find (λ p. eqb p.1.0.0 address.0) (enumerate_from 0 (entries_from s at))
+    → option_map point_of_entry found ≡ point_found address s
+unfolding point_found points_of
+found_point address s at found p e = ap (option_map point_of_entry) (same found ∙ e) ∙ rw p (found_first address.0 0 (points_from s (place_after s 1)))
+  where
+    same : (found : Option (ℕ × (PointAddress × ℕ))) → found ≡ option_map (λ p. (p.0, p.1)) found
+    same None = refl
+    same (Some p) = refl
+
+-- what is found behind the points
 module _ (s : List ℕ) where
-  pub head-is : kind_at s 1 ≡ 1 → (let r = cut s 1 11 in
-      Some (record { link = record { 0 = link_of r }; date = date_of r; maker = maker_of r; product = product_of r }) ≡ identity_found s)
-  unfolding identity_found length_of
-  head-is k = let o = cut_out s 1 1 k (omega arith) in sym (rw (k, ← o.is_record))
-
-  pub no-head : (kind_at s 1 ≡ 1 → ⊥) → None ≡ identity_found s
-  unfolding identity_found
-  no-head n = sym (rw (ne_eqb (kind_at s 1) 1 n))
-
   -- the place behind the points, as it is counted
   pub dates-place : (first number : ℕ) → first ≡ place_after s 1 → number ≡ length (points_of s) → first + 9 * number ≡ dates_place s
   unfolding dates_place points_of
@@ -101,47 +121,17 @@ module _ (s : List ℕ) where
   unfolding points_of
   points-room number n = rw n (points-fit s (place_after s 1)).room-for-all
 
-module _ (s : List ℕ) (at : ℕ) where
-  pub value-is : (object : ℕ) → kind_at s at ≡ 4 → 1 ≤ object → object ≤ 6 → (let r = cut s at 41 in
-      Some (record { value = value_of object r; quality = quality_of object r }) ≡ value_found object s at)
-  unfolding value_found length_of
-  value-is object k least most =
-      let o = cut_out s at 4 k (omega arith) in
-      sym (rw (k, le-leb 1 object least, le-leb object 6 most, ← o.is_record))
+-- the labels are cut out of the record
+module _ (s : List ℕ) (at : ℕ) (r : List ℕ) where
+  pub dates_there : StandsThere 3 s at r
+      → dates_at s at ≡ Some (record { first = label_a_at (take 5 (drop 3 r)) 0; second = label_a_at (take 5 (drop 8 r)) 0 })
+  unfolding dates_at first_date second_date
+  dates_there t = rw (label_a_cut r 3, label_a_cut r 8, t.is_record, t.is_kind)
 
-  pub no_reading : (object : ℕ) → (kind_at s at ≡ 4 → ⊥) → None ≡ value_found object s at
-  unfolding value_found
-  no_reading object n = sym (rw (ne_eqb (kind_at s at) 4 n))
-
-  pub no-object : (object : ℕ) → (1 ≤ object → object ≤ 6 → ⊥) → None ≡ value_found object s at
-  unfolding value_found
-  no-object object n =
-      let not-one : false ≡ (eqb (kind_at s at) 4 && (leb 1 object && leb object 6)) =
-      refuted _ (λ e.
-      let both = and_right (eqb (kind_at s at) 4) _ e in
-      n (leb-true 1 object (and_left (leb 1 object) (leb object 6) both)) (leb-true object 6 (and_right (leb 1 object) (leb object 6) both))) in
-      sym (rw (← not-one))
-
-  -- each label is cut out of the record
-  pub dates-are : kind_at s at ≡ 3 → (let r = cut s at 13 in
-      Some (record { first = label_a_at (take 5 (drop 3 r)) 0; second = label_a_at (take 5 (drop 8 r)) 0 }) ≡ dates_at s at)
-  unfolding dates_at first_date second_date length_of
-  dates-are k =
-      let r = cut s at 13 in
-      rw (label_a_cut r 3, label_a_cut r 8) (sym (rw (k, ← (cut_out s at 3 k (omega arith)).is_record)))
-
-  pub no-dates : (kind_at s at ≡ 3 → ⊥) → None ≡ dates_at s at
-  unfolding dates_at
-  no-dates n = sym (rw (ne_eqb (kind_at s at) 3 n))
-
-  pub event-is : kind_at s at ≡ 5 → (let r = cut s at 15 in
-      Some (record { spa = spa_of r; spq = spq_of r; label = label_b_at (take 7 (drop 8 r)) 0 }) ≡ event_found s at)
-  unfolding event_found event_label length_of
-  event-is k = rw (label_b_cut (cut s at 15) 8) (sym (rw (k, ← (cut_out s at 5 k (omega arith)).is_record)))
-
-  pub no-event : (kind_at s at ≡ 5 → ⊥) → None ≡ event_found s at
-  unfolding event_found
-  no-event n = sym (rw (ne_eqb (kind_at s at) 5 n))
+  pub event_there : StandsThere 5 s at r
+      → event_found s at ≡ Some (record { spa = spa_of r; spq = spq_of r; label = label_b_at (take 7 (drop 8 r)) 0 })
+  unfolding event_found event_label
+  event_there t = rw (label_b_cut r 8, t.is_record, t.is_kind)
 
 -- what is answered at a place depends on the octets of the record there, and on nothing else
 module _ (s s' : List ℕ) (at at' : ℕ) (e : whole_at s at ≡ true) (e' : whole_at s' at' ≡ true) (same : record_at s at ≡ record_at s' at') where

@@ -1,6 +1,6 @@
 -- The points of an orderly image: all records of kind 2 stand behind the first record, one after the other; so a point is known
 -- exactly when it is found there, and how many points there are is counted there. Kinds rise. Assumes nothing.
-use Rattle.std.specs.Prelude.{Option}
+use Rattle.std.specs.Prelude.{is_some, Option}
 use Prim.Native.Nat.{ℕ, suc, ◌+◌, ◌≤◌, ◌<◌}
 use mathlib.Core.Bool.{Bool, true, false}
 use mathlib.Core.List.{List, [], ◌∷◌}
@@ -22,7 +22,7 @@ use Rattle.fields.specs.working.Key.{key_of}
 use Rattle.fields.specs.Answers.{records_of, leading, points_from, points_of, point_in, point_found}
 use Rattle.fields.proofs.Parts.{key_kind, key_4, key_5}
 use Rattle.image.specs.Image.{in_order, knows}
-use Rattle.image.specs.working.Keys.{is_found, known_in, key_known}
+use Rattle.image.specs.working.Keys.{known_in, key_known}
 use Rattle.image.proofs.Order.{order_kinds, order_once, linked_tail, before_rest}
 use Rattle.fields.specs.declared.Point.{Point}
 
@@ -47,7 +47,7 @@ pub known_low : (points : List (List ℕ)) (k : Key) → k.kind < 4 → true ≡
 unfolding key_known
 known_low points k h = sym (rw (lt-leb 4 k.kind h))
 
-pub known_high : (s : List ℕ) (k : Key) → 4 ≤ k.kind → (found : Option Point) → found ≡ point_found k.point s → is_found found ≡ key_known (points_of s) k
+pub known_high : (s : List ℕ) (k : Key) → 4 ≤ k.kind → (found : Option Point) → found ≡ point_found k.point s → is_some found ≡ key_known (points_of s) k
 unfolding key_known point_found
 known_high s k h found g = rw (le-leb 4 k.kind h, g)
 
@@ -86,7 +86,7 @@ keep_leading f (r ∷ rs) = by_test (keep_leading f rs) (f r) refl
     by_test rest false e = refl
 
 -- a point is found among leading points exactly when there is one
-pub found_point : (a n : ℕ) (rs : List (List ℕ)) → is_found (point_in a n (leading (is_kind 2) rs)) ≡ ltb 0 (how_many (is_point a) (leading (is_kind 2) rs))
+pub found_point : (a n : ℕ) (rs : List (List ℕ)) → is_some (point_in a n (leading (is_kind 2) rs)) ≡ ltb 0 (how_many (is_point a) (leading (is_kind 2) rs))
 unfolding point_in leading how_many keep
 found_point a n [] = refl
 found_point a n (r ∷ rs) = by_tests (found_point a (n + 1) rs) (eqb (kind_of r) 2) (eqb (point_of r) a) refl refl
@@ -94,9 +94,9 @@ found_point a n (r ∷ rs) = by_tests (found_point a (n + 1) rs) (eqb (kind_of r
     ps : List (List ℕ)
     ps = leading (is_kind 2) rs
 
-    by_tests : is_found (point_in a (n + 1) ps) ≡ ltb 0 (length (keep (is_point a) ps))
+    by_tests : is_some (point_in a (n + 1) ps) ≡ ltb 0 (length (keep (is_point a) ps))
         → (t u : Bool) → eqb (kind_of r) 2 ≡ t → eqb (point_of r) a ≡ u
-        → is_found (point_in a n (when t then r ∷ ps else [])) ≡ ltb 0 (length (keep (is_point a) (when t then r ∷ ps else [])))
+        → is_some (point_in a n (when t then r ∷ ps else [])) ≡ ltb 0 (length (keep (is_point a) (when t then r ∷ ps else [])))
     by_tests rest false u e f = refl
     by_tests rest true true e f = rw (e, f) (sym (lt-ltb 0 (suc (length (keep (is_point a) ps))) (omega arith)))
     by_tests rest true false e f = rw (e, f) rest

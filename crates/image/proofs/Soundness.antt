@@ -6,10 +6,10 @@ use mathlib.Core.List.{List, [], ◌∷◌, flatten}
 use mathlib.Core.Path.{◌≡◌, refl, ap, sym}
 use native.Mathlib.Omega.{arith}
 use borrow.Author.Tests.{eqb-true, eqb-false, leb-true, eq-eqb, le-leb}
-use lib.Dec.{eqb}
+use lib.Dec.{leb, eqb}
 use lib.ListN.{length, get_or}
 use Rattle.octets.specs.Conditions.{holds}
-use Rattle.octets.proofs.Choice.{same_test}
+use Rattle.octets.proofs.Choice.{same_test, refuted, not_both}
 use Rattle.octets.proofs.Conditions.{and_left, and_right, holds_at}
 use Rattle.label.specs.Label.{valid_a, valid_b}
 use Rattle.records.specs.Records.{kind_of, record_at, kind_at}
@@ -18,7 +18,7 @@ use Rattle.records.proofs.Said.{every_at}
 use Rattle.fields.specs.Parts.{point_of, record_address, first_date, second_date, reading_label, event_label, is_kind}
 use Rattle.fields.specs.Answers.{records_of, points_of}
 use Rattle.image.specs.Image.{reading_record, event_record, right, in_order, knows, sound_image}
-use Rattle.image.specs.working.Keys.{orderly, known_in}
+use Rattle.image.specs.working.Keys.{fronted, orderly, known_in}
 use Rattle.image.proofs.Order.{any_two}
 use Rattle.image.proofs.Known.{head_missing, all_points, dates_at_most_once, all_known_found, head_only}
 
@@ -115,6 +115,36 @@ module _ (image : List ℕ) (short : length image ≤ 65535) (version : get_or i
 
   pub walk_decides : orderly image ≡ sound_image image
   walk_decides = same_test (orderly image) (sound_image image) all_rules_law (λ e. rules_orderly image (rules image e))
+
+-- what is asked before the walk is needed, and where it holds the walk decides
+front_needed : (image : List ℕ) → sound_image image ≡ true → fronted image ≡ true
+unfolding fronted
+front_needed image e =
+    let s = rules image e in
+    let n = points_counted image s in
+    let few : length (points_of image) ≤ 8 = omega (arith, s.few_points) in
+    let some : 1 ≤ length (points_of image) = omega (arith, s.some_point) in
+    rw (le-leb (length image) 65535 s.short, eq-eqb _ 1 s.version, eq-eqb _ 1 (has_head image s), le-leb 1 _ some, le-leb _ 8 few)
+
+front_decides : (image : List ℕ) → fronted image ≡ true → orderly image ≡ sound_image image
+unfolding fronted
+front_decides image e =
+    let version_on = and_right (leb (length image) 65535) _ e in
+    let head_on = and_right (eqb (get_or image 0 0) 1) _ version_on in
+    let points_on = and_right (eqb (kind_at image 1) 1) _ head_on in
+    walk_decides image
+    (leb-true (length image) 65535 (and_left (leb (length image) 65535) _ e))
+    (eqb-true (get_or image 0 0) 1 (and_left (eqb (get_or image 0 0) 1) _ version_on))
+    (eqb-true (kind_at image 1) 1 (and_left (eqb (kind_at image 1) 1) _ head_on))
+    (leb-true 1 (length (points_of image)) (and_left (leb 1 (length (points_of image))) _ points_on))
+    (leb-true (length (points_of image)) 8 (and_right (leb 1 (length (points_of image))) _ points_on))
+
+pub front_and_walk : (image : List ℕ) → (fronted image && orderly image) ≡ sound_image image
+front_and_walk image = by_test (fronted image) refl
+  where
+    by_test : (t : Bool) → fronted image ≡ t → (t && orderly image) ≡ sound_image image
+    by_test true f = front_decides image f
+    by_test false f = refuted _ (λ e. not_both f (front_needed image e))
 
 -- each record of its kind, by itself
 module _ (r : List ℕ) (e : right r ≡ true) where

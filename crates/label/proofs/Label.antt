@@ -1,7 +1,7 @@
 -- Labels in octets, where they stand and in a part that is cut out; what valid labels are, as facts instead of tests.
 -- Octet by octet; condition by condition. Assumes nothing.
 use Prim.Native.Nat.{ℕ, ◌+◌, ◌*◌, ◌/◌, ◌%◌, ◌^◌, ◌<◌, ◌≤◌}
-use mathlib.Core.Bool.{Bool, true, false, and-true}
+use mathlib.Core.Bool.{Bool, true, false, ◌&&◌, and-true}
 use mathlib.Core.List.{List}
 use mathlib.Core.Path.{◌≡◌, refl, ap, sym, ◌∙◌}
 use native.Mathlib.Nat.{add_assoc}
@@ -20,12 +20,15 @@ use Rattle.octets.specs.Bits.{bits◌to◌of◌}
 use Rattle.octets.specs.Conditions.{holds}
 use Rattle.octets.proofs.Choice.{same_test}
 use Rattle.octets.proofs.Computed.{at_each}
-use Rattle.octets.proofs.Conditions.{holds_at}
+use Rattle.octets.specs.Choice.{when◌then◌else◌}
+use Rattle.octets.proofs.Conditions.{and_left, and_right, holds_at}
 use Rattle.octets.proofs.Lists.{part_at}
 use Rattle.label.specs.declared.DateTime.{DateTime}
 use Rattle.label.specs.declared.LabelA.{LabelA}
 use Rattle.label.specs.declared.LabelB.{LabelB}
-use Rattle.label.specs.declared.Moment.{Moment}
+use Rattle.std.specs.Prelude.{Option, Some, None, MatchOption, unwrap_or, cond}
+use Rattle.std.specs.Ordering.{is_lt, is_some_and, partial_ordering_then, int_cmp, nat_cmp}
+use Rattle.std.specs.declared.cmp.Ordering.TheVariants.{Less, Equal, Greater}
 use Rattle.label.specs.Calendar.{leap, month_length}
 use Rattle.label.specs.Time.{real, minutes}
 use Rattle.label.specs.Label.{label_a_at, label_b_at, label_a_octets, label_b_octets, date_time_a, valid_a, su, instant, before_a, second, millisecond, valid_b, in_minute, before_b}
@@ -141,6 +144,29 @@ valid_but_day l o =
     (real_but_day (date_time_a l) (omega arith) (omega arith) (omega arith) (omega arith) (omega arith) (omega arith)
     ∙ valid_but_real l (omega arith) (omega arith) (omega arith) (omega arith) (omega arith))
 
+-- where year and month are those of the calendar, the octets of minute and hour and the day decide
+pub valid_by_tests : (l : LabelA) → l.minute < 256 → l.hour < 256 → l.month < 256 → l.year < 256 → l.year < 100 → 1 ≤ l.month → l.month ≤ 12
+    → ((leb l.minute 59 && leb (l.hour % 128) 23) && (leb 1 (l.day % 32) && leb (l.day % 32) (month_length (leap l.year) l.month))) ≡ valid_a l
+valid_by_tests l minute hour month year year_last month_first month_last =
+    same_test _ _
+    (λ e.
+    let clock = and_left _ _ e in
+    let day = and_right _ _ e in
+    sym
+    (valid_but_day l
+    (record {
+      minute = leb-true _ _ (and_left _ _ clock);
+      hour = leb-true _ _ (and_right _ _ clock);
+      year = omega arith;
+      month_first = month_first;
+      month_last = month_last;
+      day_first = leb-true _ _ (and_left _ _ day);
+    }))
+    ∙ and_right _ _ day)
+    (λ v.
+    let o = octets_a l minute hour month year v in
+    rw (le-leb _ _ o.minute, le-leb _ _ o.hour, le-leb _ _ o.day_first, valid_but_day l o) v)
+
 -- SU is the highest bit of the hour's octet
 pub su_highest : (l : LabelA) → l.hour < 256 → leb 128 l.hour ≡ eqb (su l) 1
 su_highest l small =
@@ -201,25 +227,37 @@ valid_b_law l e =
       valid = holds_at _ e 2;
     }
 
--- where seconds and milliseconds are those of a clock, the label a decides
-pub valid_but_a : (l : LabelB) → second l ≤ 59 → millisecond l ≤ 999 → valid_a l.a ≡ valid_b l
+-- seconds and milliseconds first, the label a last
+pub valid_b_by_tests : (l : LabelB) → ((leb (second l) 59 && leb (millisecond l) 999) && valid_a l.a) ≡ valid_b l
 unfolding valid_b holds
-valid_but_a l s m = simp (le-leb _ _ s, le-leb _ _ m, and-true)
+valid_b_by_tests l = three (leb (second l) 59) (leb (millisecond l) 999) (valid_a l.a)
+  where
+    three : (t u v : Bool) → ((t && u) && v) ≡ (t && (u && (v && true)))
+    three true u v = rw and-true
+    three false u v = refl
 
--- where the label a is valid and the seconds are those of a clock, the milliseconds decide
-pub valid_but_millisecond : (l : LabelB) → valid_a l.a ≡ true → second l ≤ 59 → leb (millisecond l) 999 ≡ valid_b l
-unfolding valid_b holds
-valid_but_millisecond l e s = simp (e, le-leb _ _ s, and-true)
-
--- validity and instant side by side, and each by itself
-pub moment_is : (a : LabelA) (v valid : Bool) (minute : ℤ) → valid ≡ v → minute ≡ instant a
-    → ◌≡◌ {A = Moment} (record { valid = valid; minute = minute }) (moment_of v a)
+-- the instant of a valid label, and none of another
+pub moment_some : (a : LabelA) (v : Bool) (minute : ℤ) → v ≡ true → minute ≡ instant a → Some minute ≡ moment_of v a
 unfolding moment_of
-moment_is a v valid minute e d = rw (e, d)
+moment_some a v minute e d = rw (e, d)
 
-pub moment_facts : (a : LabelA) (v : Bool) (m : Moment) → m ≡ moment_of v a → (m.valid ≡ v) × (m.minute ≡ instant a)
+pub moment_none : (a : LabelA) (v : Bool) → v ≡ false → None ≡ moment_of v a
 unfolding moment_of
-moment_facts a v m e = (ap (λ (n : Moment). n.valid) e, ap (λ (n : Moment). n.minute) e)
+moment_none a v e = rw e
+
+pub moment_or_none : (a : LabelA) → unwrap_or (moment_of (valid_a a) a) (pos 0) ≡ instant a
+unfolding moment_of instant
+moment_or_none a = by_test (valid_a a) refl
+  where
+    by_test : (t : Bool) → valid_a a ≡ t → unwrap_or (when t then Some (instant a) else None) (pos 0) ≡ instant a
+    by_test true e = refl
+    by_test false e = sym (instant_not a e)
+
+-- and what either says of the label
+pub moment_facts : (a : LabelA) (v : Bool) (m : Option ℤ) → m ≡ moment_of v a → MatchOption m (v ≡ false) (λ minute. (v ≡ true) × (minute ≡ instant a))
+unfolding moment_of
+moment_facts a true m e = rw e (refl, refl)
+moment_facts a false m e = rw e refl
 
 -- of any octets, not only of a clock's
 pub second_small : (l : LabelB) → second l < 64
@@ -239,6 +277,22 @@ pub compared : (l l' : LabelA) (x y : ℤ) → mag x < 2 ^ 63 → mag y < 2 ^ 63
     → lt_z (to_z w64 (of_z w64 x)) (to_z w64 (of_z w64 y)) ≡ before_a l l'
 unfolding before_a
 compared l l' x y f g e d = rw (back x f, back y g, e, d)
+
+-- two pairs compared, the first of each by signed numbers and the second by others, by the three tests that decide
+pairs : (less greater second_less second_same : Bool)
+    → is_some_and is_lt (partial_ordering_then (Some (cond less Less (cond greater Greater Equal))) (Some (cond second_less Less (cond second_same Equal Greater))))
+    ≡ (when less then true else when greater then false else second_less)
+pairs true greater second_less second_same = refl
+pairs false true second_less second_same = refl
+pairs false false true second_same = refl
+pairs false false false true = refl
+pairs false false false false = refl
+
+-- b's order is that of the pairs of instant and milliseconds, as the machine compares them
+pub b_by_pairs : (l l' : LabelB) (x y : ℤ) (m n : ℕ) → mag x < 2 ^ 63 → mag y < 2 ^ 63 → x ≡ instant l.a → y ≡ instant l'.a → m ≡ in_minute l → n ≡ in_minute l'
+    → is_some_and is_lt (partial_ordering_then (Some (int_cmp (to_z w64 (of_z w64 x)) (to_z w64 (of_z w64 y)))) (Some (nat_cmp m n))) ≡ before_b l l'
+unfolding before_b before_a
+b_by_pairs l l' x y m n f g e d i j = rw (back x f, back y g, e, d, i, j) (pairs _ _ _ (eqb (in_minute l) (in_minute l')))
 
 -- the three ways of b's order
 module _ (l l' : LabelB) where

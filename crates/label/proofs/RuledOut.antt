@@ -1,7 +1,7 @@
 -- What the public contracts of this crate do not allow: two wrong outcomes or more of each.
 -- By computation; of all labels by the condition that fails. Assumes nothing.
 use Prim.Native.Nat.{ℕ, ◌+◌, ◌*◌, ◌%◌, ◌≤◌}
-use mathlib.Core.Bool.{Bool, true, false, false≢true}
+use mathlib.Core.Bool.{true, false, false≢true}
 use mathlib.Core.List.{List, [], ◌∷◌}
 use mathlib.Core.Path.{◌≡◌, refl, sym, ap, ◌∙◌}
 use native.Mathlib.Omega.{arith}
@@ -19,7 +19,8 @@ use Rattle.octets.proofs.Outcome.{RuledOut, Place, lent, never}
 use Rattle.label.specs.declared.DateTime.{DateTime}
 use Rattle.label.specs.declared.LabelA.{LabelA}
 use Rattle.label.specs.declared.LabelB.{LabelB}
-use Rattle.label.specs.declared.Moment.{Moment}
+use Rattle.std.specs.Prelude.{Some, None}
+use Rattle.std.proofs.lemmas.Option.{same_Some}
 use Rattle.label.specs.declared.StandardTime.{StandardTime}
 use Rattle.label.specs.Calendar.{leap, leap_day, month_length, days_of_months, days_to_year, day_number}
 use Rattle.label.specs.Time.{real, minutes}
@@ -252,26 +253,27 @@ module _ (κs : Lfts 0) where
   unfolding before_a the_instant
   a_is_before_bit s p = never (cc)
 
-  -- the moment of a valid label told as not valid, whatever the instant
-  a_moment_valid : (l : LabelA) (i : ℤ) → valid_a l ≡ true → RuledOut (a_moment.Post κs) (l, tt) (record { valid = false; minute = i })
+  -- no moment of a valid label
+  a_moment_valid : (l : LabelA) → valid_a l ≡ true → RuledOut (a_moment.Post κs) (l, tt) None
   unfolding moment_of
-  a_moment_valid l i valid s p = false≢true (ap (λ (r : Moment). r.valid) p ∙ valid)
+  a_moment_valid l valid s p = let q = rw valid at p in cc
 
-  -- the moment of a label that is not valid told as valid, whatever the instant
-  a_moment_not_valid : (l : LabelA) (i : ℤ) → valid_a l ≡ false → RuledOut (a_moment.Post κs) (l, tt) (record { valid = true; minute = i })
+  -- a moment of a label that is not valid, whatever the instant
+  a_moment_not_valid : (l : LabelA) (i : ℤ) → valid_a l ≡ false → RuledOut (a_moment.Post κs) (l, tt) (Some i)
   unfolding moment_of
-  a_moment_not_valid l i not_valid s p = false≢true (sym (ap (λ (r : Moment). r.valid) p ∙ not_valid))
+  a_moment_not_valid l i not_valid s p = let q = rw not_valid at p in cc
 
   -- the days of an instant in place of its minutes
-  a_moment_days : (v : Bool) → RuledOut (a_moment.Post κs) (label_a 0 0 2 1 0, tt) (record { valid = v; minute = pos 1 })
+  a_moment_days : RuledOut (a_moment.Post κs) (label_a 0 0 2 1 0, tt) (Some (pos 1))
   unfolding moment_of the_instant
-  a_moment_days v s p = omega (arith, ap (λ (r : Moment). nat_abs r.minute) p)
+  a_moment_days s p = omega (arith, ap nat_abs (same_Some _ _ p))
 
   -- the moment of a label in summer time with the minute that its clock shows, whatever valid label it is
-  a_moment_shown : (l : LabelA) (v : Bool) → valid_a l ≡ true → su l ≡ 1 → RuledOut (a_moment.Post κs) (l, tt) (record { valid = v; minute = pos (minutes (date_time_a l)) })
+  a_moment_shown : (l : LabelA) → valid_a l ≡ true → su l ≡ 1 → RuledOut (a_moment.Post κs) (l, tt) (Some (pos (minutes (date_time_a l))))
   unfolding moment_of
-  a_moment_shown l v valid summer s p =
-      omega (arith, less_back (minutes (date_time_a l)) (minutes (date_time_a l)) (sym (ap (λ (r : Moment). r.minute) p ∙ instant_summer l valid (eq-eqb (su l) 1 summer))))
+  a_moment_shown l valid summer s p =
+      let q = rw valid at p in
+      omega (arith, less_back (minutes (date_time_a l)) (minutes (date_time_a l)) (sym (same_Some _ _ q ∙ instant_summer l valid (eq-eqb (su l) 1 summer))))
 
   -- a label in summer time told as its clock shows it, whatever valid label it is
   a_standard_time_shown : (l : LabelA) → valid_a l ≡ true → su l ≡ 1 → RuledOut (a_standard_time.Post κs) (l, tt) (as_it_stands (date_time_a l))
@@ -328,15 +330,15 @@ module _ (κs : Lfts 0) where
     unfolding valid_b holds second millisecond low_first
     b_is_valid_last valid s p = never (cc)
 
-    -- the moment of a label with second 60 told as valid, whatever the minute
-    b_moment_second : (i : ℤ) → RuledOut (b_moment.Post κs) (label_b 0 0xF0 a, tt) (record { valid = true; minute = i })
+    -- a moment of a label with second 60, whatever the minute
+    b_moment_second : (i : ℤ) → RuledOut (b_moment.Post κs) (label_b 0 0xF0 a, tt) (Some i)
     unfolding moment_of valid_b holds second low_first
-    b_moment_second i s p = false≢true (sym (ap (λ (r : Moment). r.valid) p))
+    b_moment_second i s p = cc
 
-    -- the moment of a label with 1000 milliseconds told as valid, whatever the minute
-    b_moment_millisecond : (i : ℤ) → RuledOut (b_moment.Post κs) (label_b 0xE8 3 a, tt) (record { valid = true; minute = i })
+    -- a moment of a label with 1000 milliseconds, whatever the minute
+    b_moment_millisecond : (i : ℤ) → RuledOut (b_moment.Post κs) (label_b 0xE8 3 a, tt) (Some i)
     unfolding moment_of valid_b holds second millisecond low_first
-    b_moment_millisecond i s p = false≢true (sym (ap (λ (r : Moment). r.valid) p))
+    b_moment_millisecond i s p = cc
 
   -- a second of 100 milliseconds, of every label with a second
   b_in_minute_hundred : (l : LabelB) → (second l ≡ 0 → ⊥) → RuledOut (b_in_minute.Post κs) (l, tt) (second l * 100 + millisecond l)

@@ -1,10 +1,10 @@
--- What this crate's own calls answer: validity and instant at once. The card's definition does without it.
+-- What this crate's own calls answer: the instant of a label that is valid. The card's definition does without it.
 -- Assumes nothing.
-use Rattle.std.specs.Prelude.{Bool}
+use Rattle.std.specs.Prelude.{Bool, Option, Some, None, ℤ}
+use Rattle.octets.specs.Choice.{when◌then◌else◌}
 use Rattle.label.specs.declared.LabelA.{LabelA}
-use Rattle.label.specs.declared.Moment.{Moment}
 use Rattle.label.specs.Label.{instant}
 
--- whether a label is valid, and its instant; that of a label b is its label a's
-unfoldable pub moment_of : Bool → LabelA → Moment
-moment_of valid a = record { valid = valid; minute = instant a }
+-- the instant of a valid label, and none of any other; that of a label b is its label a's
+unfoldable pub moment_of : Bool → LabelA → Option ℤ
+moment_of valid a = when valid then Some (instant a) else None

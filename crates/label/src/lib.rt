@@ -1,14 +1,18 @@
 #![tactic(auto)]
 // Time labels a and b: read from octets and written as octets, what they say, whether they are valid, their instant and their order.
-ghost use Rattle.std.specs.Prelude.{◌≡◌, true, ◌+◌, ◌-◌, ◌/◌, ◌≤◌, ◌<◌, leb, eqb};
-ghost use Rattle.label.specs.Calendar.{leap, leap_day, month_length, days_to_year, days_of_months};
+ghost use Rattle.std.specs.Prelude.{◌≡◌, true, eqb};
 ghost use Rattle.label.specs.Time.{real, minutes};
 ghost use Rattle.label.specs.Label.{label_a_at, label_b_at, label_a_octets, label_b_octets, date_time_a, valid_a, su, instant, before_a, second, millisecond, valid_b, in_minute, before_b};
-ghost use Rattle.label.specs.Standard.{standard_at, as_it_stands, hour_earlier, standard_a};
+ghost use Rattle.label.specs.Standard.{as_it_stands, hour_earlier, standard_a};
 ghost use Rattle.label.specs.Calls.{moment_of};
 
+mod month;
+
+use month::Month;
+use octets::Number;
+
 // A date and time: the year's last two figures, 0 to 99 for 2000 to 2099. Any five numbers are a value; not every one is a real date.
-#[derive(Clone, Copy)]
+#[derive(Clone, Copy, Debug, PartialEq, Eq)]
 pub struct DateTime {
     pub year: u8,
     pub month: u8,
@@ -18,7 +22,7 @@ pub struct DateTime {
 }
 
 // A date and time in standard time. Its year is whole: a summer label in the first hour of 2000 lies in 1999.
-#[derive(Clone, Copy)]
+#[derive(Clone, Copy, Debug, PartialEq, Eq)]
 pub struct StandardTime {
     pub year: u16,
     pub month: u8,
@@ -28,7 +32,7 @@ pub struct StandardTime {
 }
 
 // Label a, its five octets as they stand on the wire, each named after what its low bits hold.
-#[derive(Clone, Copy)]
+#[derive(Clone, Copy, Debug, PartialEq, Eq)]
 pub struct LabelA {
     pub minute: u8,
     pub hour: u8,
@@ -37,19 +41,12 @@ pub struct LabelA {
     pub year: u8,
 }
 
-// Label b: two octets of milliseconds and seconds, low octet first, and a label a.
-#[derive(Clone, Copy)]
+// Label b: two octets of milliseconds and seconds, low octet first, and a label a. The two are no twins: b asks its a, and adds to what that answers.
+#[derive(Clone, Copy, Debug, PartialEq, Eq)]
 pub struct LabelB {
     pub low: u8,
     pub high: u8,
     pub a: LabelA,
-}
-
-// Whether a label is valid, and its instant. A walk over records asks for both at once.
-#[derive(Clone, Copy)]
-pub struct Moment {
-    pub valid: bool,
-    pub minute: i64,
 }
 
 impl DateTime {
@@ -58,11 +55,16 @@ impl DateTime {
         requires { real self ≡ true }
         ensures { result ≡ minutes self }
     {
-        let day = days_before(self.year, self.month) + self.day as u32 - 1;
+        let month = Month {
+            year: self.year,
+            number: self.month,
+        };
+        let day = month.days_before() + self.day as u32 - 1;
         day * 1440 + self.hour as u32 * 60 + self.minute as u32
     }
 
     // As a clock in standard time shows it.
+    #[tactic(auto, unfolding(crate::specs::Standard::as_it_stands))]
     fn as_it_stands(self) -> StandardTime
         ensures { result ≡ as_it_stands self }
     {
@@ -75,47 +77,50 @@ impl DateTime {
         }
     }
 
-    // In the last hour of a day, at its minute.
-    fn last_hour_of(self, year: u16, month: u8, day: u8) -> StandardTime
-        ensures { result ≡ standard_at year month day 23 self.minute }
-    {
-        StandardTime {
-            year,
-            month,
-            day,
-            hour: 23,
-            minute: self.minute,
-        }
-    }
-
     // One hour earlier.
+    #[tactic(auto, unfolding(crate::specs::Standard::as_it_stands, crate::specs::Standard::hour_earlier))]
     fn hour_earlier(self) -> StandardTime
         requires { real self ≡ true }
         ensures { result ≡ hour_earlier self }
     {
-        let year = 2000 + self.year as u16;
+        let shown = self.as_it_stands();
         if 0 < self.hour {
-            return StandardTime {
-                year,
-                month: self.month,
-                day: self.day,
+            StandardTime {
                 hour: self.hour - 1,
-                minute: self.minute,
+                ..shown
+            }
+        } else if 1 < self.day {
+            StandardTime {
+                day: self.day - 1,
+                hour: 23,
+                ..shown
+            }
+        } else if 1 < self.month {
+            let month = Month {
+                year: self.year,
+                number: self.month - 1,
             };
+            StandardTime {
+                month: month.number,
+                day: month.length(),
+                hour: 23,
+                ..shown
+            }
+        } else {
+            StandardTime {
+                year: shown.year - 1,
+                month: 12,
+                day: 31,
+                hour: 23,
+                ..shown
+            }
         }
-        if 1 < self.day {
-            return self.last_hour_of(year, self.month, self.day - 1);
-        }
-        if 1 < self.month {
-            let month = self.month - 1;
-            return self.last_hour_of(year, month, month_length(self.year, month));
-        }
-        self.last_hour_of(1999 + self.year as u16, 12, 31)
     }
 }
 
 impl LabelA {
     // The label in the first five octets; those that are not there count as 0.
+    #[tactic(auto, unfolding(crate::specs::Label::label_a_at))]
     pub fn read(s: &[u8]) -> LabelA
         ensures { result ≡ label_a_at s.now 0 }
     {
@@ -129,6 +134,7 @@ impl LabelA {
     }
 
     // Its five octets.
+    #[tactic(auto, unfolding(crate::specs::Label::label_a_octets))]
     pub fn octets(self) -> [u8; 5]
         ensures { result ≡ label_a_octets self }
     {
@@ -136,6 +142,7 @@ impl LabelA {
     }
 
     // The date and time that the label says.
+    #[tactic(auto, unfolding(crate::specs::Label::date_time_a))]
     pub fn date_time(self) -> DateTime
         ensures { result ≡ date_time_a self }
     {
@@ -152,30 +159,12 @@ impl LabelA {
     pub fn is_valid(self) -> bool
         ensures { result ≡ valid_a self }
     {
-        // IV and TIS stand above the minute
-        if 59 < self.minute {
+        // a reserved bit stands above the year, ETI and PTI above the month
+        let Some(month) = Month::of(self.year, self.month) else {
             return false;
-        }
-        // the reserved bits stand between the hour and SU
-        if 23 < self.hour % 128 {
-            return false;
-        }
-        // a reserved bit stands above the year
-        if 99 < self.year {
-            return false;
-        }
-        // ETI and PTI stand above the month
-        if 12 < self.month {
-            return false;
-        }
-        if self.month < 1 {
-            return false;
-        }
-        let day = self.day % 32;
-        if day < 1 {
-            return false;
-        }
-        has_day(self.year, self.month, day)
+        };
+        // IV and TIS stand above the minute, the reserved bits between the hour and SU
+        self.minute <= 59 && self.hour % 128 <= 23 && month.has_day(self.day % 32)
     }
 
     // Whether it is told in summer time: SU is the highest bit of the hour's octet.
@@ -192,35 +181,27 @@ impl LabelA {
     {
         let minute = self.date_time().minutes() as i64;
         if self.is_summer() {
-            return minute - 60;
+            minute - 60
+        } else {
+            minute
         }
-        minute
     }
 
     // The minutes since 1 January 2000 00:00 in standard time, and 0 of a label that is not valid.
     pub fn instant(self) -> i64
         ensures { result ≡ instant self }
     {
-        if self.is_valid() {
-            return self.standard_minute();
-        }
-        0
+        self.moment().unwrap_or(0)
     }
 
-    // Whether it is valid, and its instant.
-    pub fn moment(self) -> Moment
+    // Its instant, where it is valid. A walk over records asks for both at once.
+    pub fn moment(self) -> Option<i64>
         ensures { result ≡ moment_of (valid_a self) self }
     {
         if self.is_valid() {
-            let minute = self.standard_minute();
-            return Moment {
-                valid: true,
-                minute,
-            };
-        }
-        Moment {
-            valid: false,
-            minute: 0,
+            Some(self.standard_minute())
+        } else {
+            None
         }
     }
 
@@ -229,13 +210,11 @@ impl LabelA {
         ensures { result ≡ standard_a self }
     {
         let said = self.date_time();
-        if self.is_valid() {
-            if self.is_summer() {
-                return said.hour_earlier();
-            }
-            return said.as_it_stands();
+        if self.is_valid() && self.is_summer() {
+            said.hour_earlier()
+        } else {
+            said.as_it_stands()
         }
-        said.as_it_stands()
     }
 
     // Whether it lies before another label by their instants.
@@ -259,61 +238,43 @@ impl LabelB {
     }
 
     // Its seven octets.
+    #[tactic(auto, unfolding(crate::specs::Label::label_a_octets, crate::specs::Label::label_b_octets))]
     pub fn octets(self) -> [u8; 7]
         ensures { result ≡ label_b_octets self }
     {
-        let a = self.a;
-        [
-            self.low, self.high, a.minute, a.hour, a.day, a.month, a.year,
-        ]
+        let [minute, hour, day, month, year] = self.a.octets();
+        [self.low, self.high, minute, hour, day, month, year]
     }
 
+    #[tactic(auto, unfolding(crate::specs::Label::second))]
     pub fn second(self) -> u8
         ensures { result ≡ second self }
     {
-        (octets::low_first_2(self.low, self.high) / 1024) as u8
+        (u16::from_low_first([self.low, self.high]) / 1024) as u8
     }
 
+    #[tactic(auto, unfolding(crate::specs::Label::millisecond))]
     pub fn millisecond(self) -> u16
         ensures { result ≡ millisecond self }
     {
-        octets::low_first_2(self.low, self.high) % 1024
+        u16::from_low_first([self.low, self.high]) % 1024
     }
 
     // Whether its label a is valid, and the seconds and milliseconds are those of a clock.
     pub fn is_valid(self) -> bool
         ensures { result ≡ valid_b self }
     {
-        if 59 < self.second() {
-            return false;
-        }
-        if 999 < self.millisecond() {
-            return false;
-        }
-        self.a.is_valid()
+        self.second() <= 59 && self.millisecond() <= 999 && self.a.is_valid()
     }
 
-    // Whether it is valid, and its instant, which is that of its label a.
-    pub fn moment(self) -> Moment
+    // Its instant, which is that of its label a, where it is valid.
+    pub fn moment(self) -> Option<i64>
         ensures { result ≡ moment_of (valid_b self) self.a }
     {
-        let a = self.a;
-        if a.is_valid() {
-            let minute = a.standard_minute();
-            if self.second() <= 59 {
-                return Moment {
-                    valid: self.millisecond() <= 999,
-                    minute,
-                };
-            }
-            return Moment {
-                valid: false,
-                minute,
-            };
-        }
-        Moment {
-            valid: false,
-            minute: 0,
+        if self.is_valid() {
+            Some(self.a.standard_minute())
+        } else {
+            None
         }
     }
 
@@ -328,77 +289,6 @@ impl LabelB {
     pub fn is_before(self, other: LabelB) -> bool
         ensures { result ≡ before_b self other }
     {
-        let mine = self.a.instant();
-        let theirs = other.a.instant();
-        if mine < theirs {
-            return true;
-        }
-        if theirs < mine {
-            return false;
-        }
-        self.in_minute() < other.in_minute()
+        (self.a.instant(), self.in_minute()) < (other.a.instant(), other.in_minute())
     }
-}
-
-// The calendar of 2000 to 2099, by arithmetic on the month and the year.
-
-// 1 in a leap year, and 0 in any other. 2000 is one, so every fourth year is.
-fn leap_day(year: u8) -> u8
-    requires { year < 100 }
-    ensures { result ≡ leap_day (leap year) }
-{
-    if year % 4 == 0 { 1 } else { 0 }
-}
-
-// A month's turn: odd says 31 days, even says 30. The months have 31 and 30 days in turn, January first, so the turn begins as the month's own number. But July and August both have 31: from August on, where month / 8 is 1, the turn is one further.
-fn turn(month: u8) -> u8
-    requires { month ≤ 12 }
-    ensures { result ≡ month + month / 8 }
-{
-    month + month / 8
-}
-
-// By its turn a month has 31 days or 30. February alone has fewer: 28, and 29 in a leap year.
-fn month_length(year: u8, month: u8) -> u8
-    requires { (year < 100) × (1 ≤ month) × (month ≤ 12) }
-    ensures { result ≡ month_length (leap year) month }
-{
-    if month == 2 {
-        return 28 + leap_day(year);
-    }
-    30 + turn(month) % 2
-}
-
-// Whether a month has a day. No month has fewer than 28, so that most days need no length.
-fn has_day(year: u8, month: u8, day: u8) -> bool
-    requires { (year < 100) × (1 ≤ month) × (month ≤ 12) }
-    ensures { result ≡ leb day (month_length (leap year) month) }
-{
-    if day <= 28 {
-        return true;
-    }
-    day <= month_length(year, month)
-}
-
-// The days of a year before the first of a month.
-fn days_of_months_before(year: u8, month: u8) -> u32
-    requires { (year < 100) × (1 ≤ month) × (month ≤ 12) }
-    ensures { result ≡ days_of_months (leap year) (month - 1) }
-{
-    // by the turns: 30 for each month, and one more for each odd turn before this one, of which half the turn are; the turn 8, which no month has, is even
-    let days = 30 * (month as u32 - 1) + turn(month) as u32 / 2;
-    // behind February, whose turn says 30: it has two fewer, and in a leap year one
-    if 2 < month {
-        return days - 2 + leap_day(year) as u32;
-    }
-    days
-}
-
-// The days from 1 January 2000 to the first of a month. A year has 365, and every fourth, from 2000 on, one more.
-fn days_before(year: u8, month: u8) -> u32
-    requires { (year < 100) × (1 ≤ month) × (month ≤ 12) }
-    ensures { result ≡ days_to_year year + days_of_months (leap year) (month - 1) }
-{
-    let y = year as u32;
-    365 * y + (y + 3) / 4 + days_of_months_before(year, month)
 }

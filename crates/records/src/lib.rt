@@ -7,7 +7,7 @@ ghost use Rattle.records.specs.Said.{places_behind};
 
 use octets::Number;
 
-// The length that a record of a kind has, and 0 for what is no kind.
+// The length that a record of a kind has, and 0 for what is no kind: the definitions `length_of` and `kind_at` count in plain numbers, and no record is of kind 0.
 #[tactic(auto, unfolding(crate::specs::Records::length_of))]
 pub fn length_of(kind: u8) -> u16
     ensures { (result ≡ length_of kind) × (result ≤ 39) }

@@ -1,21 +1,21 @@
 -- `broken_rule` answers what is wrong with octets that are no whole record.
 -- By their kind and their length, where they have one. Assumes nothing.
-use mathlib.Core.Path.{sym, ◌∙◌}
-use native.Mathlib.Omega.{arith}
+use Rattle.std.proofs.Common.{sym, ◌∙◌, arith}
 use Rattle.faults.proofs.Walking.{cut_short, no_kind, other_length, cut_behind}
 use Rattle.faults.proofs.broken_rule.Goals as goal
 
-pub returns-then-image-lt3 : goal.returns-then-image-lt3
-returns-then-image-lt3 c = cut_short c.args.image.now c.args.at (omega arith)
-
-pub returns-then-image-at : goal.returns-then-image-at
-returns-then-image-at c = cut_short c.args.image.now c.args.at (omega arith)
+pub returns-in_default : goal.returns-in_default
+returns-in_default c = cut_short _ _ c.part.ensures (λ e. omega arith)
 
 pub returns-then-length-eq0 : goal.returns-then-length-eq0
-returns-then-length-eq0 c = no_kind c.args.image.now c.args.at (omega arith) (sym c.length_of-length.ensures.0 ∙ c.if-length-eq0.true)
+returns-then-length-eq0 c = no_kind _ _ c.part.ensures (omega arith) _ c.length_of-length.ensures.0 c.if-length-eq0.true
 
-pub returns-then-high_first_2-length : goal.returns-then-high_first_2-length
-returns-then-high_first_2-length c = other_length c.args.image.now c.args.at (omega arith) _ c.length_of-length.ensures.0 c.if-length-eq0.false (λ e. c.if-high_first_2-length.true (c.high_first_2.ensures ∙ e))
+pub returns-then-from_high_first-length : goal.returns-then-from_high_first-length
+returns-then-from_high_first-length c =
+    other_length _ _ c.part.ensures (omega arith) _ c.length_of-length.ensures.0 c.if-length-eq0.false
+    (λ e. c.if-from_high_first-length.true (c.from_high_first.ensures ∙ e))
 
-pub returns : goal.returns
-returns c = cut_behind c.args.image.now c.args.at (omega arith) _ c.length_of-length.ensures.0 c.if-length-eq0.false (sym c.high_first_2.ensures ∙ c.if-high_first_2-length.false)
+pub returns-else-from_high_first-length : goal.returns-else-from_high_first-length
+returns-else-from_high_first-length c =
+    cut_behind _ _ c.part.ensures (omega arith) _ c.length_of-length.ensures.0 c.if-length-eq0.false
+    (sym c.from_high_first.ensures ∙ c.if-from_high_first-length.false)

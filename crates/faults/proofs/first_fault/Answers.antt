@@ -12,11 +12,11 @@ use Rattle.faults.proofs.first_fault.Goals as goal
 pub loop-rule-init : goal.loop-rule-init
 loop-rule-init c = begins _
 
-pub rule_there-rule-requires : goal.rule_there-rule-requires
-rule_there-rule-requires c = told c.is_whole.ensures c.loop-rule-test.true
+pub rule_there-requires : goal.rule_there-requires
+rule_there-requires c = told c.is_whole.ensures c.loop-rule-test.true
 
-pub step-walk-requires : goal.step-walk-requires
-step-walk-requires c =
+pub further-walk-requires : goal.further-walk-requires
+further-walk-requires c =
     let s = c.loop-rule.invariant.stage in
     record { whole_there = told c.is_whole.ensures c.loop-rule-test.true; fits = s.small; few_points = omega (arith, s.points_counted, s.fine.few) }
 
@@ -24,22 +24,23 @@ pub loop-rule-smaller : goal.loop-rule-smaller
 unfolding further
 loop-rule-smaller c =
     let whole = told c.is_whole.ensures c.loop-rule-test.true in
-    omega (arith, ap (λ (walk : Walk). walk.at) c.step-walk.ensures, after_later _ _ whole, after_within _ _ whole)
+    omega (arith, ap (λ (walk : Walk). walk.at) c.further-walk.ensures, after_later _ _ whole, after_within _ _ whole)
 
 pub loop-rule-preserved : goal.loop-rule-preserved
 loop-rule-preserved c =
     let i = c.loop-rule.invariant in
-    rw c.step-walk.ensures
+    rw c.further-walk.ensures
     (stands_further _ _ _ i.stage (told c.is_whole.ensures c.loop-rule-test.true) i.decides
-    (sym (c.rule_there-rule.ensures i.before i.stage) ∙ c.is_none.ensures.is_none c.if-is_none.true))
+    (sym (c.rule_there.ensures i.before i.stage) ∙ c.in_default.is))
 
-pub overflow_add-result : goal.overflow_add-result
-overflow_add-result c = omega (arith, c.loop-rule.invariant.stage.small)
+pub fault-requires : goal.fault-requires
+fault-requires c = c.loop-rule.invariant.stage.small
 
-pub returns-else-is_none : goal.returns-else-is_none
-returns-else-is_none c =
+pub returns-in-Some : goal.returns-in-Some
+returns-in-Some c =
     let i = c.loop-rule.invariant in
-    found_there _ _ _ i.stage (told c.is_whole.ensures c.loop-rule-test.true) i.decides _ (c.rule_there-rule.ensures i.before i.stage) (c.is_none.ensures.is_some c.if-is_none.false)
+    rw c.fault.ensures
+    (found_there _ _ _ i.stage (told c.is_whole.ensures c.loop-rule-test.true) i.decides _ (sym c.in-Some.is ∙ c.rule_there.ensures i.before i.stage))
 
 pub at_end-requires : goal.at_end-requires
 at_end-requires c = c.loop-rule.invariant.stage.small

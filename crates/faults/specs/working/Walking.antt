@@ -1,6 +1,7 @@
 -- Where the walk over an image's records stands, and what its steps answer. Nothing here has to be believed: that it comes to the first fault is
 -- proved. Assumes nothing.
-use Rattle.std.specs.Prelude.{ℕ, ◌+◌, ◌≤◌, ◌<◌, Bool, true, false, not, ◌&&◌, ◌≡◌, leb, eqb, length, drop, Option, Some, None}
+use Rattle.std.specs.Prelude.{ℕ, ◌+◌, ◌≤◌, ◌<◌, Bool, true, not, ◌&&◌, ◌≡◌, leb, eqb, length, drop, Option, Some, None}
+use Rattle.std.specs.Option.{option_or}
 use mathlib.Core.List.{List, [], ◌∷◌, ◌++◌, flatten}
 use Rattle.octets.specs.Choice.{when◌then◌else◌}
 use Rattle.octets.specs.First.{When, ◌⇒◌▸◌, first_of◌else◌}
@@ -11,43 +12,38 @@ use Rattle.fields.specs.Parts.{is_kind}
 use Rattle.fields.specs.Answers.{records_of}
 use Rattle.image.specs.Image.{right, in_order, knows}
 use Rattle.faults.specs.declared.ImageRule.{ImageRule}
-use Rattle.faults.specs.declared.ImageRule.TheVariants.{FirstDate, SecondDate, NinthPoint, NoPointBefore, UnknownPoint, NoFault}
+use Rattle.faults.specs.declared.ImageRule.TheVariants.{FirstDate, SecondDate, NinthPoint, NoPointBefore, UnknownPoint}
 use Rattle.faults.specs.declared.ImageFault.{ImageFault}
 use Rattle.faults.specs.declared.Walk.{Walk}
-use Rattle.faults.specs.Images.{of_whole, own_rules, follows, place_rules, record_rule, end_faults, fault_from}
+use Rattle.faults.specs.Images.{own_rules, follows, place_rules, record_rule, end_faults, fault_from}
 use Rattle.fields.specs.declared.Dates.{Dates}
 
--- whether a rule is none
-pub record Tells (rule : ImageRule) (none : Bool) : Type 0 where
-  pub is_none : none ≡ true → rule ≡ NoFault
-  pub is_some : none ≡ false → rule ≡ NoFault → ⊥
-
 -- the rules of a record by itself
-unfoldable pub own_rule : List ℕ → ImageRule
-own_rule r = first_of own_rules r else NoFault
+unfoldable pub own_rule : List ℕ → Option ImageRule
+own_rule r = first_of own_rules r else None
 
--- of two parts the first that is wrong
-unfoldable pub first_wrong : Bool → Bool → ImageRule → ImageRule → ImageRule
-first_wrong first second one other = first_of not first ⇒ one ▸ not second ⇒ other ▸ [] else NoFault
+-- a rule that is broken unless something holds
+abbrev pub unless : Bool → ImageRule → Option ImageRule
+unless test rule = when test then None else Some rule
 
-unfoldable pub dates_rule : Option Dates → ImageRule
-dates_rule (Some d) = first_wrong (valid_a d.first) (valid_a d.second) FirstDate SecondDate
-dates_rule None = NoFault
+unfoldable pub dates_rule : Option Dates → Option ImageRule
+dates_rule (Some d) = option_or (unless (valid_a d.first) FirstDate) (unless (valid_a d.second) SecondDate)
+dates_rule None = None
 
 -- by how many points are passed, and whether a point is known
-unfoldable pub point_rule : ℕ → ℕ → Bool → ImageRule
+unfoldable pub point_rule : ℕ → ℕ → Bool → Option ImageRule
 point_rule kind points known =
     first_of
-    eqb kind 2 && leb 8 points ⇒ NinthPoint ▸
-    leb 3 kind && eqb points 0 ⇒ NoPointBefore ▸
-    leb 4 kind && not known ⇒ UnknownPoint ▸
-    [] else NoFault
+    eqb kind 2 && leb 8 points ⇒ Some NinthPoint ▸
+    leb 3 kind && eqb points 0 ⇒ Some NoPointBefore ▸
+    leb 4 kind && not known ⇒ Some UnknownPoint ▸
+    [] else None
 
 -- by all that stands before it, and where it is in order by the points
-unfoldable pub place_rule : List (List ℕ) → List ℕ → ImageRule
-place_rule before r = first_of place_rules before r else NoFault
+unfoldable pub place_rule : List (List ℕ) → List ℕ → Option ImageRule
+place_rule before r = first_of place_rules before r else None
 
-abbrev pub point_rules : List (List ℕ) → List ℕ → List (When ImageRule)
+abbrev pub point_rules : List (List ℕ) → List ℕ → List (When (Option ImageRule))
 point_rules before r = drop 1 (place_rules before r)
 
 -- what is true of records none of which is at fault
@@ -83,6 +79,10 @@ further image walk =
       at = place_after image walk.at;
     }
 
+-- a fault of the record where it stands
+abbrev pub fault_there : Walk → ImageRule → ImageFault
+fault_there walk rule = record { rule = rule; place = Some (record { number = walk.passed + 1; at = walk.at }) }
+
 -- room for one record more
 pub record Room (image : List ℕ) (walk : Walk) : Type 0 where
   pub whole_there : whole_at image walk.at ≡ true
@@ -93,15 +93,15 @@ pub record Room (image : List ℕ) (walk : Walk) : Type 0 where
 abbrev pub FollowsThere : List ℕ → Walk → Bool → Type 0
 FollowsThere image walk t = (before : List (List ℕ)) → Stage image before walk → t ≡ follows before (record_at image walk.at)
 
-abbrev pub PlaceThere : List ℕ → Walk → ImageRule → Type 0
+abbrev pub PlaceThere : List ℕ → Walk → Option ImageRule → Type 0
 PlaceThere image walk rule = (before : List (List ℕ)) → Stage image before walk → rule ≡ place_rule before (record_at image walk.at)
 
-abbrev pub RuleThere : List ℕ → Walk → ImageRule → Type 0
+abbrev pub RuleThere : List ℕ → Walk → Option ImageRule → Type 0
 RuleThere image walk rule = (before : List (List ℕ)) → Stage image before walk → rule ≡ record_rule before (record_at image walk.at)
 
 -- and where no whole record stands
-abbrev pub EndThere : List ℕ → Walk → ImageFault → Type 0
-EndThere image walk fault = (before : List (List ℕ)) → Stage image before walk → fault ≡ (first_of end_faults image before else of_whole NoFault)
+abbrev pub EndThere : List ℕ → Walk → Option ImageFault → Type 0
+EndThere image walk fault = (before : List (List ℕ)) → Stage image before walk → fault ≡ (first_of end_faults image before else None)
 
 -- the walk stands somewhere, and the first fault from there on is the first
 pub record Standing (image : List ℕ) (walk : Walk) : Type 0 where

@@ -1,36 +1,20 @@
 -- `fields::points` answers how many points stand behind the first record.
--- The loop's invariant: those passed and those from here on are all of them. Assumes nothing.
-use mathlib.Core.Path.{ap, sym, ◌∙◌}
-use native.Mathlib.Omega.{arith}
-use lib.ListN.{length}
-use Rattle.records.specs.Records.{length_of}
-use Rattle.fields.specs.Answers.{points_of}
-use Rattle.fields.proofs.Parts.{room_of}
-use Rattle.fields.proofs.Answers.{points-more, points-end}
+-- The iterator yields them all, and there are no more than octets. Assumes nothing.
+use Rattle.std.proofs.Common.{refl, ap, ◌∙◌, arith, length, inl}
+use Rattle.std.proofs.lemmas.Iterator.Consumers.{count_from_yields_List, YieldsList-from_first}
+use Rattle.std.proofs.lemmas.List.{length-map}
+use Rattle.fields.specs.Answers.{points_of, points_from}
+use Rattle.fields.specs.declared.PointsFrom.{PointsFrom}
+use Rattle.fields.specs.working.Standing.{entry, entries_from}
+use Rattle.fields.proofs.Answers.{few_entries}
 use Rattle.fields.proofs.points.Goals as goal
 
-pub loop-passed-init : goal.loop-passed-init
-unfolding points_of
-loop-passed-init c = (rw c.after-at.ensures (omega arith), omega arith)
-
-pub overflow_add-passed : goal.overflow_add-passed
-unfolding length_of
-overflow_add-passed c = omega (arith, room_of _ _ 2 c.kind_at.ensures c.loop-passed-test.true (omega arith))
-
-pub overflow_add-at : goal.overflow_add-at
-unfolding length_of
-overflow_add-at c = omega (arith, room_of _ _ 2 c.kind_at.ensures c.loop-passed-test.true (omega arith))
-
-pub loop-passed-smaller : goal.loop-passed-smaller
-unfolding length_of
-loop-passed-smaller c = omega (arith, room_of _ _ 2 c.kind_at.ensures c.loop-passed-test.true (omega arith))
-
-pub loop-passed-preserved : goal.loop-passed-preserved
-loop-passed-preserved c =
-    let l = c.loop-passed in
-    (omega (arith, ap length (points-more _ l.at (sym c.kind_at.ensures ∙ c.loop-passed-test.true))), omega arith)
+pub count-requires-clause-fits : goal.count-requires-clause-fits
+count-requires-clause-fits c = inl (omega (arith, ap length c.points_of.ensures.0, few_entries c.points_of.result.image.now c.points_of.result.at))
 
 pub returns : goal.returns
+unfolding points_of
 returns c =
-    let l = c.loop-passed in
-    omega (arith, ap length (points-end _ l.at (λ e. c.loop-passed-test.false (c.kind_at.ensures ∙ e))))
+    let left = λ (s : PointsFrom). entries_from s.image.now s.at in
+    count_from_yields_List _ _ c.count.ensures.ran (YieldsList-from_first (λ x. x) left _ refl)
+    ∙ rw (c.points_of.ensures.0, c.points_of.ensures.1) (length-map (points_from _ _) entry)

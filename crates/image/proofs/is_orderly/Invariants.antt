@@ -3,12 +3,11 @@
 use Prim.Native.Nat.{◌-◌}
 use mathlib.Core.Path.{◌≡◌}
 use lib.ListN.{length}
-use Rattle.records.specs.Records.{place_after}
 use Rattle.image.specs.working.Keys.{orderly, left}
 use Rattle.image.proofs.is_orderly.Given as goal
 
-abbrev pub invariant-loop-at : goal.invariant-loop-at
-invariant-loop-at l = (l.next ≡ place_after l.image l.at) × (left l.image l.at l.last ≡ orderly l.image)
+abbrev pub invariant-loop-here : goal.invariant-loop-here
+invariant-loop-here l = left l.image l.walk.at l.walk.last ≡ orderly l.image
 
-abbrev pub decreases-loop-at : goal.decreases-loop-at
-decreases-loop-at l = length l.image - l.at
+abbrev pub decreases-loop-here : goal.decreases-loop-here
+decreases-loop-here l = length l.image - l.walk.at

@@ -1,18 +1,18 @@
 -- The rules of an image as they are worked out, over keys and over the points behind the first record, in one walk over the records.
 -- Nothing here has to be believed: that these are the rules of `Image` is proved. Assumes nothing.
-use Rattle.std.specs.Prelude.{ℕ, ◌+◌, ◌-◌, ◌≤◌, ◌<◌, Bool, true, false, not, ◌&&◌, ◌≡◌, ltb, leb, eqb, ℤ, length, Option, Some, None}
+use Rattle.std.specs.Prelude.{ℕ, refl, ◌+◌, ◌≤◌, Bool, true, false, not, ◌&&◌, ◌≡◌, ltb, leb, eqb, ℤ, length, get_or, Option, Some, None, is_some}
 use mathlib.Core.List.{List, [], ◌∷◌, flatten}
 use Rattle.octets.specs.Choice.{when◌then◌else◌}
-use Rattle.label.specs.Label.{valid_a, valid_b, instant, before_b}
-use Rattle.records.specs.Records.{kind_of, records_from}
+use Rattle.label.specs.Label.{valid_a, valid_b, instant, before_a, before_b}
+use Rattle.records.specs.Records.{length_of, kind_of, records_from, kind_at}
 use Rattle.records.specs.Said.{every, linked}
+use Rattle.label.specs.declared.LabelB.{LabelB}
 use Rattle.fields.specs.declared.Key.{Key}
 use Rattle.fields.specs.Parts.{point_of}
-use Rattle.fields.specs.working.Key.{at_minute, key_of}
+use Rattle.fields.specs.working.Key.{at_minute, key_of, key_at}
 use Rattle.fields.specs.Answers.{records_of, points_of, point_in}
-use Rattle.image.specs.declared.Run.{Run}
+use Rattle.image.specs.declared.Walk.{Walk}
 use Rattle.image.specs.Image.{reading_record, event_record, right, in_order}
-use Rattle.fields.specs.declared.Point.{Point}
 use Rattle.fields.specs.declared.Dates.{Dates}
 
 unfoldable pub valid_dates : Option Dates → Bool
@@ -38,12 +38,14 @@ keys_in_order k l =
     false
 
 -- whether the point of a reading or an event is among some points
-abbrev pub is_found : Option Point → Bool
-is_found (Some p) = true
-is_found None = false
-
 unfoldable pub known_in : List (List ℕ) → List ℕ → Bool
-known_in points r = when leb 4 (kind_of r) then is_found (point_in (point_of r) 1 points) else true
+known_in points r = when leb 4 (kind_of r) then is_some (point_in (point_of r) 1 points) else true
+
+-- the size, version 1, a first record of kind 1, and 1 to 8 points behind it
+unfoldable pub fronted : List ℕ → Bool
+fronted image =
+    let points = length (points_of image) in
+    leb (length image) 65535 && (eqb (get_or image 0 0) 1 && (eqb (kind_at image 1) 1 && (leb 1 points && leb points 8)))
 
 -- each record right, neighbours in order, the points that are named known, and records to the exact end
 unfoldable pub orderly : List ℕ → Bool
@@ -73,7 +75,7 @@ key_right k =
     event_record k.record_address && valid_b k.label
 
 unfoldable pub key_known : List (List ℕ) → Key → Bool
-key_known points k = when leb 4 k.kind then is_found (point_in k.point.0 1 points) else true
+key_known points k = when leb 4 k.kind then is_some (point_in k.point.0 1 points) else true
 
 unfoldable pub key_fits : List (List ℕ) → Key → Key → Bool
 key_fits points k l = key_right l && (keys_in_order k l && key_known points l)
@@ -96,28 +98,39 @@ pub record Behind (kind : ℕ) (s : List ℕ) (last : Key) (minute : ℤ) (k : K
   pub next_start : AtStart k
   pub kept : minute ≡ instant last.label.a
 
--- a walk over a run that halts, and one that is asked to advance to a place, over a record that fits or does not
-abbrev pub halted : Run → Bool → Run
-halted run fine = record { going = false; fine = fine; at = run.at; last = run.last; minute = run.minute }
+-- the kinds that stand in runs
+pub data Runs : ℕ → Type 0 where
+  of_readings : Runs 4
+  of_events : Runs 5
 
-abbrev pub advanced : Run → Bool → ℕ → Key → ℤ → Run
-advanced run fits next k minute = when fits then record { going = true; fine = true; at = next; last = k; minute = minute } else halted run false
+-- how many octets a record of each takes
+pub reading_takes : 41 ≡ 2 + length_of 4
+unfolding length_of
+reading_takes = refl
 
--- a walk over a run of one kind that goes on
-pub record Going (kind : ℕ) (s : List ℕ) (run : Run) : Type 0 where
-  pub run_kind : 4 ≤ kind
-  pub all_fine : run.fine ≡ true
-  pub last_kind : run.last.kind ≡ kind
-  pub last_passed : Passed s run.last
-  pub kept : run.minute ≡ instant run.last.label.a
+pub event_takes : 15 ≡ 2 + length_of 5
+unfolding length_of
+event_takes = refl
 
--- a walk from a place on, behind a key: what it left decides, unless it came to what does not fit
-pub record Onward (s : List ℕ) (from : ℕ) (first : Key) (run : Run) : Type 0 where
-  pub further : from ≤ run.at
-  pub decides : (run.fine && left s run.at run.last) ≡ left s from first
+-- of a record of such a kind: its address, its label by itself, and its label behind the last one's; readings rise, events may be equal
+abbrev pub kind_address : ℕ → ℕ → Bool
+kind_address kind n = when eqb kind 4 then reading_record n else event_record n
 
--- one step of it
-pub record Next (kind : ℕ) (s : List ℕ) (run next : Run) : Type 0 where
-  pub onward : Onward s run.at run.last next
-  pub still : next.going ≡ true → Going kind s next
-  pub nearer : next.going ≡ true → length s - next.at < length s - run.at
+abbrev pub kind_valid : ℕ → LabelB → Bool
+kind_valid kind l = when eqb kind 4 then valid_a l.a else valid_b l
+
+abbrev pub kind_follows : ℕ → LabelB → LabelB → Bool
+kind_follows kind last l = when eqb kind 4 then before_a last.a l.a else not (before_b l last)
+
+-- its key at a place, where one stands there
+abbrev pub run_key : ℕ → List ℕ → ℕ → Option Key
+run_key kind s at = when eqb (kind_at s at) kind then Some (key_at s at) else None
+
+-- its instant, where something holds
+abbrev pub instant_where : Bool → Key → Option ℤ
+instant_where test k = when test then Some (instant k.label.a) else None
+
+-- a walk that has come further: what it left decides what was left
+pub record Onward (s : List ℕ) (from walk : Walk) : Type 0 where
+  pub further : from.at ≤ walk.at
+  pub decides : left s walk.at walk.last ≡ left s from.at from.last

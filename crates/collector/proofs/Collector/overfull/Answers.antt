@@ -5,4 +5,4 @@ use Rattle.collector.proofs.Collector.overfull.Goals as goal
 
 pub returns : goal.returns
 unfolding emptied overfull
-returns c = rw c.new-overfull.ensures
+returns c = rw c.new.ensures

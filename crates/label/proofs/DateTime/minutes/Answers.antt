@@ -6,8 +6,8 @@ use Rattle.label.specs.Time.{minutes}
 use Rattle.label.proofs.Time.{room}
 use Rattle.label.proofs.DateTime.minutes.Goals as goal
 
-pub days_before-requires : goal.days_before-requires
-days_before-requires c = let h = room _ c.requires in omega arith
+pub invariant_of-month : goal.invariant_of-month
+invariant_of-month c = let h = room _ c.requires in omega arith
 
 pub overflow_add-day : goal.overflow_add-day
 overflow_add-day c = let h = room _ c.requires in omega arith

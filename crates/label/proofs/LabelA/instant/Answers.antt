@@ -1,15 +1,12 @@
--- `LabelA::instant` answers the instant, and 0 of a label that is not valid.
--- By the two cases of validity. Assumes nothing.
-use mathlib.Core.Path.{sym, ◌∙◌}
-use Rattle.octets.proofs.Choice.{told}
-use Rattle.label.proofs.Label.{back, instant_not}
+-- `LabelA::instant` answers a label's instant.
+-- It is the moment, and 0 where there is none. Assumes nothing.
+use Rattle.std.proofs.Common.{pos, unwrap_or, ap, ◌∙◌}
+use Rattle.label.proofs.Label.{moment_or_none, back}
 use Rattle.label.proofs.LabelA.instant.Goals as goal
 
-pub standard_minute-requires : goal.standard_minute-requires
-standard_minute-requires c = told c.is_valid.ensures c.if-is_valid.true
-
-pub returns-then-is_valid : goal.returns-then-is_valid
-returns-then-is_valid c = back c.standard_minute.result c.standard_minute.type_inv ∙ c.standard_minute.ensures
-
 pub returns : goal.returns
-returns c = sym (instant_not _ (told c.is_valid.ensures c.if-is_valid.false))
+returns c =
+    back c.unwrap_or.result c.unwrap_or.type_inv
+    ∙ c.unwrap_or.ensures
+    ∙ ap (λ moment. unwrap_or moment (pos 0)) c.moment.ensures
+    ∙ moment_or_none c.args.self

@@ -1,19 +1,14 @@
--- `LabelA::moment` answers whether a label a is valid, and its instant.
+-- `LabelA::moment` answers the instant of a label that is valid.
 -- By the two cases of validity. Assumes nothing.
-use mathlib.Core.Path.{sym, ◌∙◌}
+use Rattle.std.proofs.Common.{◌∙◌}
 use Rattle.octets.proofs.Choice.{told}
-use Rattle.label.proofs.Label.{back, instant_not, moment_is}
+use Rattle.label.proofs.Label.{moment_some, moment_none, back}
 use Rattle.label.proofs.LabelA.moment.Goals as goal
-
-pub standard_minute-minute-requires : goal.standard_minute-minute-requires
-standard_minute-minute-requires c = told c.is_valid.ensures c.if-is_valid.true
 
 pub returns-then-is_valid : goal.returns-then-is_valid
 returns-then-is_valid c =
-    let minute = c.standard_minute-minute in
-    moment_is _ _ _ _ (sym (told c.is_valid.ensures c.if-is_valid.true)) (back minute.result minute.type_inv ∙ minute.ensures)
+    let minute = c.standard_minute in
+    moment_some _ _ _ (told c.is_valid.ensures c.if-is_valid.true) (back minute.result minute.type_inv ∙ minute.ensures)
 
-pub returns : goal.returns
-returns c =
-    let none = told c.is_valid.ensures c.if-is_valid.false in
-    moment_is _ _ _ _ (sym none) (sym (instant_not _ none))
+pub returns-else-is_valid : goal.returns-else-is_valid
+returns-else-is_valid c = moment_none _ _ (told c.is_valid.ensures c.if-is_valid.false)

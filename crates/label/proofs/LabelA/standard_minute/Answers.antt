@@ -25,8 +25,8 @@ returns-then-is_summer c =
     (summer_counted _ _ minutes.result (search rules) c.requires c.date_time.ensures
     minutes.ensures (told c.is_summer.ensures c.if-is_summer.true))
 
-pub returns : goal.returns
-returns c =
+pub returns-else-is_summer : goal.returns-else-is_summer
+returns-else-is_summer c =
     let minutes = c.minutes-minute in
     standard_counted _ _ minutes.result (search rules) c.requires c.date_time.ensures
     minutes.ensures (told c.is_summer.ensures c.if-is_summer.false)

@@ -1,10 +1,11 @@
 -- `LabelA::standard_time` answers what a label says in standard time.
 -- By the cases of validity and SU. Assumes nothing.
-use mathlib.Core.Path.{ap, ◌∙◌}
+use Rattle.std.proofs.Common.{ap, ◌∙◌}
 use Rattle.octets.proofs.Choice.{told}
 use Rattle.label.specs.Time.{real}
 use Rattle.label.proofs.Label.{valid_a_law, from_summer, from_standard, from_not_valid}
 use Rattle.label.proofs.LabelA.standard_time.Goals as goal
+use Rattle.label.proofs.LabelA.standard_time.Goals.{else-is_valid-via-then-is_valid+else-is_summer, else-is_valid-via-else-is_valid}
 
 pub hour_earlier-requires : goal.hour_earlier-requires
 hour_earlier-requires c =
@@ -18,14 +19,13 @@ returns-then-is_summer c =
     (told c.is_valid.ensures c.if-is_valid.true)
     (told c.is_summer.ensures c.if-is_summer.true)
 
-pub returns-then-is_valid : goal.returns-then-is_valid
-returns-then-is_valid c =
+pub returns-else-is_valid : goal.returns-else-is_valid
+returns-else-is_valid c =
     c.as_it_stands.ensures
-    ∙ from_standard _ _ c.date_time-said.ensures
-    (told c.is_valid.ensures c.if-is_valid.true)
-    (told c.is_summer.ensures c.if-is_summer.false)
-
-pub returns : goal.returns
-returns c =
-    c.as_it_stands-2.ensures
-    ∙ from_not_valid _ _ c.date_time-said.ensures (told c.is_valid.ensures c.if-is_valid.false)
+    ∙ elim c.else-is_valid.branch [
+      | else-is_valid-via-then-is_valid+else-is_summer w ↦
+          from_standard _ _ c.date_time-said.ensures
+          (told c.is_valid.ensures w.if-is_valid.true)
+          (told w.is_summer.ensures w.if-is_summer.false)
+      | else-is_valid-via-else-is_valid w ↦ from_not_valid _ _ c.date_time-said.ensures (told c.is_valid.ensures w.if-is_valid.false)
+    ]

@@ -1,17 +1,28 @@
 -- `LabelB::is_valid` answers whether a label b is valid.
--- Seconds or milliseconds of no clock refute it; else its label a decides. Assumes nothing.
-use mathlib.Core.Path.{◌∙◌}
-use native.Mathlib.Omega.{arith}
-use Rattle.octets.proofs.Choice.{refuted}
-use Rattle.label.proofs.Label.{valid_b_law, valid_but_a}
-use borrow.Author.Rules.{rules}
+-- By its seconds and milliseconds, then by its label a. Assumes nothing.
+use Rattle.std.proofs.Common.{◌≡◌, leb, ◌&&◌, sym, ◌∙◌, le-leb}
+use borrow.Author.Tests.{lt-leb}
+use Rattle.label.specs.Label.{second, millisecond}
+use Rattle.label.proofs.Label.{valid_b_by_tests}
 use Rattle.label.proofs.LabelB.is_valid.Goals as goal
+use Rattle.label.proofs.LabelB.is_valid.Goals.{then-second-le59, else-second-le59}
 
-pub returns-then-second-gt59 : goal.returns-then-second-gt59
-returns-then-second-gt59 c = refuted _ (λ e. let h = valid_b_law _ e in omega arith)
+pub returns-then-millisecond-le999 : goal.returns-then-millisecond-le999
+returns-then-millisecond-le999 c =
+    let l = c.args.self in
+    let clock : c.if-second-le59.value ≡ (leb (second l) 59 && leb (millisecond l) 999) =
+    elim c.if-second-le59.branch [
+      | then-second-le59 w ↦ w.value-is ∙ rw (← c.second.ensures, le-leb _ _ w.if-second-le59.true, w.millisecond.ensures)
+      | else-second-le59 w ↦ w.value-is ∙ rw (← c.second.ensures, lt-leb _ _ w.if-second-le59.false)
+    ] in
+    c.is_valid.ensures ∙ rw (sym clock ∙ c.if-millisecond-le999.true) at (valid_b_by_tests l)
 
-pub returns-then-millisecond-gt999 : goal.returns-then-millisecond-gt999
-returns-then-millisecond-gt999 c = refuted _ (λ e. let h = valid_b_law _ e in omega arith)
-
-pub returns : goal.returns
-returns c = c.is_valid.ensures ∙ valid_but_a _ (search rules) (search rules)
+pub returns-else-millisecond-le999 : goal.returns-else-millisecond-le999
+returns-else-millisecond-le999 c =
+    let l = c.args.self in
+    let clock : c.if-second-le59.value ≡ (leb (second l) 59 && leb (millisecond l) 999) =
+    elim c.if-second-le59.branch [
+      | then-second-le59 w ↦ w.value-is ∙ rw (← c.second.ensures, le-leb _ _ w.if-second-le59.true, w.millisecond.ensures)
+      | else-second-le59 w ↦ w.value-is ∙ rw (← c.second.ensures, lt-leb _ _ w.if-second-le59.false)
+    ] in
+    c.if-millisecond-le999.false ∙ rw (sym clock ∙ c.if-millisecond-le999.false) at (valid_b_by_tests l)

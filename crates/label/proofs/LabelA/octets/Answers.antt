@@ -1,9 +1,0 @@
--- `LabelA::octets` answers the label's octets.
--- Octet by octet. Assumes nothing.
-use mathlib.Core.Path.{refl}
-use Rattle.label.specs.Label.{label_a_octets}
-use Rattle.label.proofs.LabelA.octets.Goals as goal
-
-pub returns : goal.returns
-unfolding label_a_octets
-returns c = refl
