@@ -39,7 +39,7 @@ use Rattle.rules.specs.declared.Rule.{Rule}
 use Rattle.rules.specs.declared.Rule.TheVariants.{Marked, UnknownType, NoSession, UnknownPoint, OtherSession, Shape, Address, Objects, ReadingLabel, ReadingRange, NoReading, EventLabel, EventRange, NoEvent, ClockUnset, NoDates, TimeLabel, WrongPassword, Accepted}
 use Rattle.rules.specs.Decide.{listed, is_closed, is_other, shaped, addressed_as, addressed, labels_valid, first_after_last, span_of, none_in, decide}
 use Rattle.rules.proofs.Decided.{applies, all_rules, none_before, holds_of}
-use Rattle.why.specs.declared.Why.TheVariants.{Named}
+use Rattle.std.specs.Prelude.{Ok}
 use Rattle.why.specs.Naming.{place_of}
 use Rattle.why.specs.InImage.{is_opened_by}
 use Rattle.why.specs.Stated.{Some, type_in, structure_in, cause_in, point_in, record_in, ShapeAs, RecordAs, AsksReadings, ObjectsOut, LabelNotValid, FirstAfterLast, span_in, password_in, Holds, FirstToHold, NamedHolds, FirstIsNamed}
@@ -280,4 +280,4 @@ first_is_named session image clock m rule sound least most first =
     let second = named_holds session image clock m found (sym named) in
     let after : place_of rule < place_of found → ⊥ = not_before session image clock m rule found first second in
     let before : place_of found < place_of rule → ⊥ = not_before session image clock m found rule second first in
-    sym named ∙ ap Named (places_differ (omega (arith, after, before)))
+    sym named ∙ ap Ok (places_differ (omega (arith, after, before)))

@@ -19,8 +19,9 @@ use Rattle.printing.specs.Text.{decimal, figures}
 use Rattle.printing.specs.Line.{space, newline}
 use Rattle.rules.specs.declared.Rule.{Rule}
 use Rattle.rules.specs.Rules.{cause_by, pn_by}
-use Rattle.why.specs.declared.Why.{Why}
-use Rattle.why.specs.declared.Why.TheVariants.{ImageUnsound, MessageLength, Named}
+use Rattle.std.specs.Prelude.{Ok, Err}
+use Rattle.why.specs.declared.Unasked.TheVariants.{ImageUnsound, MessageLength}
+use Rattle.why.specs.Asking.{Why}
 use Rattle.why.specs.Naming.{place_of, word_of}
 use Rattle.why.specs.Told.{ruled_text, why_line}
 use Rattle.why.proofs.Naming.{for_each, texts_differ}
@@ -34,19 +35,19 @@ put rule =
     when eqb (place_of rule) 19 then added (worded rule) (32 ∷ 45 ∷ 32 ∷ 45 ∷ 10 ∷ []) else
     added (added (added (worded rule) (32 ∷ [])) (decimal (cause_by rule))) (space ++ decimal (pn_bit (pn_by rule)) ++ newline)
 
-pub named_line : (rule : Rule) → put rule ≡ kept_of (why_line (Named rule))
+pub named_line : (rule : Rule) → put rule ≡ kept_of (why_line (Ok rule))
 unfolding added kept_of over decimal figures ruled_text why_line
-named_line = for_each put (λ rule. kept_of (why_line (Named rule))) refl refl
+named_line = for_each put (λ rule. kept_of (why_line (Ok rule))) refl refl
 
 -- no line is longer than that of the longest word
 pub line_short : (why : Why) → length (why_line why) ≤ 25
 unfolding decimal figures ruled_text why_line
-line_short ImageUnsound = omega arith
-line_short MessageLength = omega arith
-line_short (Named rule) =
-    leb-true (length (why_line (Named rule))) 25 (for_each (λ r. leb (length (why_line (Named r))) 25) (λ r. true) refl refl rule)
+line_short (Err ImageUnsound) = omega arith
+line_short (Err MessageLength) = omega arith
+line_short (Ok rule) =
+    leb-true (length (why_line (Ok rule))) 25 (for_each (λ r. leb (length (why_line (Ok r))) 25) (λ r. true) refl refl rule)
 
 -- no two rules share a line
-pub lines_differ : {a b : Rule} → why_line (Named a) ≡ why_line (Named b) → a ≡ b
+pub lines_differ : {a b : Rule} → why_line (Ok a) ≡ why_line (Ok b) → a ≡ b
 unfolding decimal figures ruled_text why_line low_first
-lines_differ = texts_differ (λ r. why_line (Named r)) refl refl
+lines_differ = texts_differ (λ r. why_line (Ok r)) refl refl

@@ -1,8 +1,11 @@
 #![tactic(auto)]
 // Why the meter says no: the first rule in document 01's order that applies to a message, by its own name.
-ghost use Rattle.std.specs.Prelude.{◌≡◌};
+ghost use Rattle.std.specs.Prelude.{◌++◌, ◌≡◌, Ok};
 ghost use Rattle.octets.specs.Keeping.{kept_of};
-ghost use Rattle.why.specs.declared.Why.TheVariants.{Named};
+ghost use Rattle.message.specs.Mirror.{pn_bit};
+ghost use Rattle.printing.specs.Text.{decimal};
+ghost use Rattle.printing.specs.Line.{space, newline};
+ghost use Rattle.rules.specs.Rules.{pn_by};
 ghost use Rattle.why.specs.Naming.{place_of, word_of};
 ghost use Rattle.why.specs.Asking.{why_of};
 ghost use Rattle.why.specs.Told.{why_line};
@@ -12,25 +15,24 @@ use message::Request;
 use octets::Kept;
 use rules::Rule;
 
-// What is answered: that the image is not sound, that a message is under 6 or over 252 octets long, or the rule.
+// Why no rule is asked for: the image is not sound, or a message is under 6 or over 252 octets long.
 #[derive(Clone, Copy)]
-pub enum Why {
+pub enum Unasked {
     ImageUnsound,
     MessageLength,
-    Named(Rule),
 }
 
 // The first rule that applies to a message, if the card as it is were to carry it out. Of the card only the session is looked at.
 #[tactic(auto, unfolding(crate::specs::Asking::why_of))]
-pub fn ask(card: Card, image: &[u8], clock: [u8; 7], message: &[u8]) -> Why
+pub fn ask(card: Card, image: &[u8], clock: [u8; 7], message: &[u8]) -> Result<Rule, Unasked>
     ensures { result ≡ why_of card.link.session image.now clock message.now }
 {
     if !image::sound(image) {
-        Why::ImageUnsound
+        Err(Unasked::ImageUnsound)
     } else if message.len() < 6 || 252 < message.len() {
-        Why::MessageLength
+        Err(Unasked::MessageLength)
     } else {
-        Why::Named(rules::decide(card.link.session, image, clock, Request::read(message)))
+        Ok(rules::decide(card.link.session, image, clock, Request::read(message)))
     }
 }
 
@@ -88,29 +90,39 @@ fn word(rule: Rule) -> &'static [u8]
     }
 }
 
+// A rule's P/N, which ends a line.
+#[tactic(auto, unfolding(printing::specs::Text::decimal, printing::specs::Text::figures))]
+fn pn_text(rule: Rule) -> &'static [u8]
+    ensures { result.now ≡ space ++ decimal (pn_bit (pn_by rule)) ++ newline }
+{
+    if rule.pn() {
+        b" 1\n"
+    } else {
+        b" 0\n"
+    }
+}
+
 // The line of a rule: its word, and the cause and P/N of the mirror that it gives. An accepted message is not refused by any.
 fn named(rule: Rule) -> Kept
-    ensures { result ≡ kept_of (why_line (Named rule)) }
+    ensures { result ≡ kept_of (why_line (Ok rule)) }
 {
     let front = Kept::new().with(b"why 0 ").with(word(rule));
-    if place(rule) == 19 {
-        front.with(b" - -\n")
-    } else {
-        printing::with_decimal(front.with(b" "), u64::from(rule.cause())).with(if rule.pn() {
-            b" 1\n"
-        } else {
-            b" 0\n"
-        })
+    match rule {
+        Rule::Accepted => front.with(b" - -\n"),
+        _ => {
+            let front = front.with(b" ");
+            printing::with_decimal(front, rule.cause() as u64).with(pn_text(rule))
+        }
     }
 }
 
 // The line that tells an answer: `why`, its number, the rule's word, cause and P/N, and `-` for what there is not.
-pub fn line(why: Why) -> Kept
+pub fn line(why: Result<Rule, Unasked>) -> Kept
     ensures { result ≡ kept_of (why_line why) }
 {
     match why {
-        Why::ImageUnsound => Kept::new().with(b"why 1 - - -\n"),
-        Why::MessageLength => Kept::new().with(b"why 2 - - -\n"),
-        Why::Named(rule) => named(rule),
+        Ok(rule) => named(rule),
+        Err(Unasked::ImageUnsound) => Kept::new().with(b"why 1 - - -\n"),
+        Err(Unasked::MessageLength) => Kept::new().with(b"why 2 - - -\n"),
     }
 }
