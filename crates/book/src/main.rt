@@ -4,40 +4,42 @@ mod entries;
 mod lines;
 mod making;
 mod telling;
-mod utf8;
 mod words;
 
-use std::io::{Stderr, Stdin, Stdout};
+use making::Places;
+use std::io::{Stderr, Stdin, Stdout, Write};
 use stream::Window;
+use words::Complaint;
 
 fn turn_over(
-    from: Stdin,
     output: Stdout,
-    error: Stderr,
-    space: &mut [u8],
-    places: &mut [usize],
+    input: &[u8],
+    places: &mut Places,
     book: &mut [u8],
-) {
-    let most = space.len();
-    let window = stream::filled(from, space, Window { from: 0, to: 0 }, most);
-    let input = stream::seen(space, window);
-    if octets::octet_at(input, 0) == 1 {
-        telling::text_from(output, error, input);
+) -> Result<(), Complaint> {
+    if matches!(input, [1, ..]) {
+        telling::text_from(output, input)
     } else {
-        making::book_from(output, error, input, places, book);
+        stream::say(output, making::book_from(input, places, book)?);
+        Ok(())
     }
 }
 
-// The same over the spaces of `main`. Their types say how long they are, so that no proof has to count them.
-fn turn_over_spaces(
+// The whole input, over the spaces of `main`. Their types say how long they are, so that no proof has to count them. What cannot be written of a
+// refusal is lost: there is no one to tell.
+fn turn_over_all(
     from: Stdin,
     output: Stdout,
-    error: Stderr,
+    mut error: Stderr,
     space: &mut [u8; 4000001],
-    places: &mut [usize; 65536],
+    places: &mut Places,
     book: &mut [u8; 2818049],
 ) {
-    turn_over(from, output, error, space, places, book);
+    let most = space.len();
+    let window = Window::default().filled(from, space, most);
+    if let Err(complaint) = turn_over(output, window.seen(space), places, book) {
+        let _ = writeln!(error, "{complaint}");
+    }
 }
 
 // The longest text, with one octet more that tells a longer one; a place for each code; the longest book, which has a name of 40 octets
@@ -46,7 +48,7 @@ fn main(rt: HostRuntime) {
     let mut space = [0u8; 4000001];
     let mut places = [0usize; 65536];
     let mut book = [0u8; 2818049];
-    turn_over_spaces(
+    turn_over_all(
         rt.stdin(),
         rt.stdout(),
         rt.stderr(),

@@ -1,49 +1,52 @@
 // Text from a book: a line for each entry of a sound one.
-use crate::words;
-use names::Checked;
-use std::io::{Stderr, Stdout};
-use std::num::wrapping_add_usize;
+ghost use Rattle.std.specs.Prelude.{length};
+ghost use Rattle.std.specs.Iterator.{at_most};
 
-fn name_at(book: &[u8], at: usize) -> &[u8] {
-    let many = octets::octet_at(book, wrapping_add_usize(at, 2));
-    octets::part(book, wrapping_add_usize(at, 3), many as usize)
-}
+use crate::words::Complaint;
+use names::Code;
+use std::io;
+use std::io::{Stdout, Write};
 
-fn say_decimal(output: Stdout, n: u8) {
-    let mut figures = itoa::Buffer::new();
-    stream::say(output, figures.format(n as u64).as_bytes());
-}
+// The entries that are left of a book, each its code and its name.
+#[derive(Drop)]
+struct Entries<'a>(&'a [u8]);
 
-// The line of the entry at a place. Answers where the next entry is.
-fn tell_entry(output: Stdout, book: &[u8], at: usize) -> usize {
-    let spa = octets::octet_at(book, at);
-    let spq = octets::octet_at(book, wrapping_add_usize(at, 1));
-    let name = name_at(book, at);
-    say_decimal(output, spa);
-    stream::say(output, b" ");
-    say_decimal(output, spq);
-    stream::say(output, b" ");
-    stream::say(output, name);
-    stream::say(output, b"\n");
-    wrapping_add_usize(at, wrapping_add_usize(3, name.len()))
-}
+impl<'a> Iterator for Entries<'a> {
+    type Item = (Code, &'a [u8]);
 
-// A loop must end, so its budget is the number of entries: a book has no more of them than octets.
-fn tell_entries(output: Stdout, book: &[u8]) {
-    let mut at = 1;
-    let mut number = 0;
-    while number < book.len() {
-        if book.len() <= at {
-            return;
-        }
-        at = tell_entry(output, book, at);
-        number += 1;
+    ghost remaining = { λ s. at_most (length s.0.now) };
+
+    fn next(&mut self) -> Option<(Code, &'a [u8])> {
+        let [spa, spq, many, rest @ ..] = self.0 else {
+            return None;
+        };
+        self.0 = octets::part(rest, *many as usize, rest.len());
+        let code = Code {
+            spa: *spa,
+            spq: *spq,
+        };
+        Some((code, octets::part(rest, 0, *many as usize)))
     }
 }
 
-pub(crate) fn text_from(output: Stdout, error: Stderr, book: &[u8]) {
-    match names::check(book) {
-        Checked::Sound => tell_entries(output, book),
-        Checked::Refused(refusal, entry) => words::entry_fault(error, entry, refusal),
+fn tell_entry(mut output: Stdout, code: Code, name: &[u8]) -> io::Result<()> {
+    let spa = code.spa;
+    let spq = code.spq;
+    write!(output, "{spa} {spq} ")?;
+    output.write_all(name)?;
+    output.write_all(b"\n")
+}
+
+// What cannot be written is lost: there is no one to tell.
+fn tell_entries(output: Stdout, entries: &[u8]) -> io::Result<()> {
+    for (code, name) in Entries(entries) {
+        tell_entry(output, code, name)?;
     }
+    Ok(())
+}
+
+pub(crate) fn text_from(output: Stdout, book: &[u8]) -> Result<(), Complaint> {
+    names::check(book).map_err(Complaint::Entry)?;
+    let _ = tell_entries(output, octets::part(book, 1, book.len()));
+    Ok(())
 }

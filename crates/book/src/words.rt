@@ -1,61 +1,58 @@
-// Every word of the program. They go to standard error, a line for what is refused. What cannot be written is lost: there is no one to tell.
+// Every word of the program: of what is refused, without the end of the line.
 use crate::entries::Fault;
-use std::io::Stderr;
+use names::BookFault;
+use std::fmt;
 
-fn say(error: Stderr, text: &[u8]) {
-    stream::complain(error, text);
+// Why an input is refused: a text is too long, a line is at fault, by its number; or a book is.
+#[derive(Clone, Copy)]
+pub enum Complaint {
+    TextTooLong,
+    Line(usize, Fault),
+    Entry(BookFault),
 }
 
-// A number between words.
-fn say_number(error: Stderr, before: &[u8], n: usize, behind: &[u8]) {
-    let mut figures = itoa::Buffer::new();
-    say(error, before);
-    say(error, figures.format(n as u64).as_bytes());
-    say(error, behind);
-}
-
-pub(crate) fn text_too_long(error: Stderr) {
-    say(error, b"text too long\n");
-}
-
-// What is wrong with a line by itself.
-pub(crate) fn line_fault(error: Stderr, line: usize, fault: Fault) {
-    say_number(error, b"line ", line, b": ");
-    match fault {
-        Fault::NotUtf8 => say(error, b"not UTF-8; the file has to be saved as UTF-8\n"),
-        Fault::Spa => say(error, b"SPA has to be a number from 0 to 255\n"),
-        Fault::Spq => say(
-            error,
-            b"SPQ has to be a number from 0 to 255, behind SPA and a blank\n",
-        ),
-        Fault::NoName => say(error, b"the name is missing behind SPA and SPQ\n"),
-        Fault::LongName(many) => say_number(
-            error,
-            b"the name has ",
-            many,
-            b" octets, and 40 is the most; a letter with an accent counts as two or more\n",
-        ),
+impl fmt::Display for Fault {
+    fn fmt<W: fmt::Write>(&self, f: &mut fmt::Formatter<W>) -> fmt::Result {
+        match *self {
+            Fault::NotUtf8 => f.write_str("not UTF-8; the file has to be saved as UTF-8"),
+            Fault::Spa => f.write_str("SPA has to be a number from 0 to 255"),
+            Fault::Spq => {
+                f.write_str("SPQ has to be a number from 0 to 255, behind SPA and a blank")
+            }
+            Fault::NoName => f.write_str("the name is missing behind SPA and SPQ"),
+            Fault::LongName(many) => write!(
+                f,
+                "the name has {many} octets, and 40 is the most; a letter with an accent counts as two or more"
+            ),
+            Fault::Again(code, earlier) => {
+                let spa = code.spa;
+                let spq = code.spq;
+                write!(f, "{spa}/{spq} has a name already, in line {earlier}")
+            }
+        }
     }
 }
 
-// A line has a code that an earlier one has already.
-pub(crate) fn again(error: Stderr, line: usize, code: usize, earlier: usize) {
-    say_number(error, b"line ", line, b": ");
-    say_number(error, b"", code / 256, b"/");
-    say_number(error, b"", code % 256, b" has a name already");
-    say_number(error, b", in line ", earlier, b"\n");
+// What is wrong with a book or an entry of it.
+fn refusal(fault: names::Fault) -> &'static str {
+    match fault {
+        names::Fault::Version => "this is no book of version 1",
+        names::Fault::Cut => "the book ends before the entry does",
+        names::Fault::Name => "the name's length is 0 or over 40",
+        names::Fault::Order => "SPA and SPQ have to be higher than those of the entry before",
+    }
 }
 
-// What is wrong with a book's entry, by the check's refusal.
-pub(crate) fn entry_fault(error: Stderr, entry: usize, refusal: u8) {
-    say_number(error, b"entry ", entry, b": ");
-    match refusal {
-        2 => say(error, b"the book ends before the entry does\n"),
-        3 => say(error, b"the name's length is 0 or over 40\n"),
-        4 => say(
-            error,
-            b"SPA and SPQ have to be higher than those of the entry before\n",
-        ),
-        _ => say(error, b"this is no book of version 1\n"),
+impl fmt::Display for Complaint {
+    fn fmt<W: fmt::Write>(&self, f: &mut fmt::Formatter<W>) -> fmt::Result {
+        match *self {
+            Complaint::TextTooLong => f.write_str("text too long"),
+            Complaint::Line(number, fault) => write!(f, "line {number}: {fault}"),
+            Complaint::Entry(why) => {
+                let entry = why.entry;
+                let refusal = refusal(why.fault);
+                write!(f, "entry {entry}: {refusal}")
+            }
+        }
     }
 }

@@ -1,5 +1,7 @@
 -- The ends of a gap: what its outcome is, and under which condition; and what a result is that says so.
 -- By the tests of the definition, one after the other. Assumes nothing.
+use Rattle.std.specs.Prelude.{Result, Ok, Err}
+use Rattle.std.specs.Result.{result_unwrap_or}
 use Prim.Native.Nat.{ℕ, ◌≤◌, ◌<◌}
 use mathlib.Core.Bool.{true, false, not}
 use mathlib.Core.List.{List}
@@ -16,6 +18,10 @@ use Rattle.frame.specs.declared.Control.TheVariants as control
 use Rattle.frame.specs.declared.Fault.{Fault}
 use Rattle.frame.specs.declared.Reply.{Reply}
 use Rattle.frame.specs.declared.Service.{Service}
+use Rattle.frame.specs.declared.WriteError.{WriteError}
+use Rattle.frame.specs.declared.WriteError.TheVariants.{Short}
+use Rattle.frame.specs.Calls.{answer_to, left_of}
+use Rattle.frame.proofs.Writing.{written_whole, never_short}
 use Rattle.frame.specs.Frame.{fault_number}
 use Rattle.frame.specs.Writing.{plain, reply_octets}
 use Rattle.image.specs.Image.{sound_image}
@@ -31,6 +37,13 @@ use Rattle.card.specs.declared.Gone.{Gone}
 use Rattle.card.specs.State.{left_with, damaged_by}
 use Rattle.card.specs.Examining.{examined}
 use Rattle.card.specs.Gap.{Outcome, refusal, replied_by, after_answer, after_finding, after_examining, gapped, gone_by, Gapped}
+
+-- a reply written into a buffer that is long enough, and how many octets it has: the buffer is never short
+pub as_written : (buffer octets : List ℕ) {left : List ℕ} → 261 ≤ length buffer → (answer : Result ℕ WriteError)
+    → Does (answer_to buffer octets) (left_of buffer octets) answer left → {count : ℕ} → count ≡ result_unwrap_or answer 0
+    → Does (length octets) (laid_in buffer octets) count left
+as_written buffer octets room (Ok n) d e = rw e (written_whole buffer octets room n d)
+as_written buffer octets room (Err Short) d e = absurd (never_short buffer octets room d)
 
 module _ (card : Card) (a : Answered) where
   pub answer_unreset : a.sends ≡ NotReset → after_answer card a ≡ refusal 7 (left_with a.link card)

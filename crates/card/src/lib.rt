@@ -16,7 +16,7 @@ ghost use Rattle.card.specs.Gap.{refusal, after_answer, after_examining, gapped,
 use address::LinkAddress;
 use collector::Collector;
 use deeds::Order;
-use frame::{Control, Fault, Form, Judged, Reply, Service, Written};
+use frame::{Control, Fault, Form, Judged, Reply, Service};
 use link::{Answered, Link, Sends};
 use octets::Kept;
 use profile::Character;
@@ -65,8 +65,10 @@ fn examine(collector: Collector, image: &[u8]) -> Examined
     if collector.marked {
         return found(Finding::Faulty(fault_of_marked(collector.length)));
     }
-    let octets = collector.octets;
-    examine_run(octets::part(&octets, 0, collector.length as usize), image)
+    examine_run(
+        octets::part(&collector.octets, 0, collector.length as usize),
+        image,
+    )
 }
 
 // What a marked run of so many octets is: an empty one is empty, as without the mark.
@@ -74,9 +76,10 @@ fn fault_of_marked(length: u16) -> Fault
     ensures { result ≡ (when ltb 0 length then Parity else Empty) }
 {
     if 0 < length {
-        return Fault::Parity;
+        Fault::Parity
+    } else {
+        Fault::Empty
     }
-    Fault::Empty
 }
 
 fn found(finding: Finding) -> Examined
@@ -92,19 +95,17 @@ fn examine_run(run: &[u8], image: &[u8]) -> Examined
     ensures { result ≡ examined_verdict image.now (judge sapr run.now) }
 {
     match frame::judge(run) {
-        Judged::Faulty(fault) => found(Finding::Faulty(fault)),
-        Judged::Fixed { control, link } => examine_frame(
-            image,
-            Form::Fixed,
-            control,
-            link,
-            &run[..0],
-        ),
-        Judged::Variable {
-            control,
-            link,
-            users,
-        } => examine_frame(
+        Err(fault) => found(Finding::Faulty(fault)),
+        Ok(Judged::Fixed { control, link }) => {
+            examine_frame(image, Form::Fixed, control, link, &run[..0])
+        }
+        Ok(
+            Judged::Variable {
+                control,
+                link,
+                users,
+            },
+        ) => examine_frame(
             image,
             Form::Variable,
             control,
@@ -114,14 +115,16 @@ fn examine_run(run: &[u8], image: &[u8]) -> Examined
     }
 }
 
+#[tactic(auto, unfolding(crate::specs::Examining::examined_frame))]
 fn examine_frame(image: &[u8], form: Form, control: u8, link: LinkAddress, user: &[u8]) -> Examined
     requires { length user.now ≤ 252 }
     ensures { result ≡ examined_frame image.now form control link user.now }
 {
     if is_link(image, link) {
-        return hear(frame::service_of(form, control), user);
+        hear(frame::service_of(form, control), user)
+    } else {
+        found(Finding::OtherLink)
     }
-    found(Finding::OtherLink)
 }
 
 fn hear(asked: Option<Service>, user: &[u8]) -> Examined
@@ -162,35 +165,27 @@ impl Card {
     pub fn octet(self, octet: u8) -> Card
         ensures { result ≡ with_octet self octet }
     {
-        let collector = self.collector;
-        self.collecting(collector.with(octet))
+        self.collecting(self.collector.with(octet))
     }
 
     // A character of eleven bits came in: an octet with its parity bit.
     pub fn character(self, character: Character) -> Card
         ensures { result ≡ with_character Eleven self character }
     {
-        let collector = self.collector;
-        self.collecting(collector.with_character(character))
+        self.collecting(self.collector.with_character(character))
     }
 
     // Octets came in, one after the other; the card is copied once for all of them.
     pub fn octets(self, octets: &[u8]) -> Card
         ensures { result ≡ with_octets self octets.now }
     {
-        let collector = self.collector;
-        self.collecting(collector.with_all(octets))
+        self.collecting(self.collector.with_all(octets))
     }
 
     fn collecting(self, collector: Collector) -> Card
         ensures { result ≡ collecting collector self }
     {
-        let link = self.link;
-        Card {
-            collector,
-            link,
-            damaged: self.damaged,
-        }
+        Card { collector, ..self }
     }
 
     // The run is gone, and the link as it is then.
@@ -200,7 +195,7 @@ impl Card {
         Card {
             collector: Collector::new(),
             link,
-            damaged: self.damaged,
+            ..self
         }
     }
 
@@ -208,15 +203,14 @@ impl Card {
     fn damaged_by(self, fault: Fault) -> Card
         ensures { result ≡ damaged_by fault self }
     {
-        if collector::is_damaged(fault) {
-            let link = self.link;
-            return Card {
-                collector: Collector::new(),
-                link,
-                damaged: collector::one_more(self.damaged),
-            };
+        if !collector::is_damaged(fault) {
+            return self;
         }
-        self
+        Card {
+            collector: Collector::new(),
+            damaged: collector::one_more(self.damaged),
+            ..self
+        }
     }
 
     // The line was idle: the run is examined, and a reply may be written.
@@ -226,11 +220,11 @@ impl Card {
         if buffer.len() < Judged::LONGEST {
             return refused(9, self);
         }
-        if image::sound(image) {
-            let collector = self.collector;
-            return after_examining(self, examine(collector, image), image, clock, buffer);
+        if !image::sound(image) {
+            return refused(8, self);
         }
-        refused(8, self)
+        let examined = examine(self.collector, image);
+        after_examining(self, examined, image, clock, buffer)
     }
 }
 
@@ -257,16 +251,14 @@ fn after_examining(
     requires { 261 ≤ length buffer.old }
     ensures { Gapped (after_examining card examined image.now clock) buffer.old result buffer.new }
 {
-    let finding = examined.finding;
-    let user = examined.user;
     let link = card.link;
-    match finding {
+    match examined.finding {
         Finding::Faulty(fault) => refused(fault.number(), card.damaged_by(fault)),
         Finding::OtherLink => refused(5, card.left_with(link)),
         Finding::NotOffered => refused(6, card.left_with(link)),
         Finding::Asks(service) => after_answer(
             card,
-            link.answer(service, user, image, clock),
+            link.answer(service, examined.user, image, clock),
             buffer,
         ),
     }
@@ -277,10 +269,12 @@ fn after_answer(card: Card, answered: Answered, buffer: &mut [u8]) -> Gone
     requires { 261 ≤ length buffer.old }
     ensures { Gapped (after_answer card answered) buffer.old result buffer.new }
 {
-    let sends = answered.sends;
-    let order = answered.order;
-    let time = answered.time;
-    let link = answered.link;
+    let Answered {
+        sends,
+        order,
+        time,
+        link,
+    } = answered;
     match sends {
         Sends::NotReset => refused(7, card.left_with(link)),
         Sends::Remembered => Gone {
@@ -305,8 +299,5 @@ fn written(buffer: &mut [u8], reply: Reply) -> u16
     requires { 261 ≤ length buffer.old }
     ensures { Does (length (reply_octets reply)) (laid_in buffer.old (reply_octets reply)) result buffer.new }
 {
-    match frame::write(buffer, reply) {
-        Written::Short => 0,
-        Written::Octets(length) => length,
-    }
+    frame::write(buffer, reply).unwrap_or(0)
 }

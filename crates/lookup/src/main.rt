@@ -2,45 +2,57 @@
 
 // The look-up program: calls of the library of names from standard input, a line for each. second/README.md, "The look-up face". It only reads
 // (`stream`), calls (`names`) and writes (`stream`), and decides nothing.
-use names::{Checked, Code, LookedUp, Shown};
-use octets::Kept;
-use std::io::{Stdin, Stdout};
-use stream::{Texts, Window};
+use names::{Code, Found, Refusal};
+use std::fmt;
+use std::fmt::InlineText;
+use stream::{Input, Output, Texts, Window};
 
 // The most octets of a book that is taken: more than a book of every SPA with every seven-bit SPQ has.
 const MOST: usize = 1500000;
 
-// A call: none is left, one that is cut, one that is none, or one of the four.
-#[derive(Clone, Copy)]
-enum Call {
-    End,
-    Cut,
-    Wrong,
-    Chosen,
-    Italian,
-    Pair,
-    Event,
+// A book that is lent: the first so many octets of a space.
+#[derive(Drop)]
+struct Shelf<'a> {
+    space: &'a mut [u8],
+    count: usize,
 }
 
-// What is kept between two calls beside the spaces of the two books: how many octets of each count, what has been read of the calls to come, the lines
-// that wait; and whether another call may follow.
-#[derive(Clone, Copy)]
-struct Shelf {
-    chosen: usize,
-    italian: usize,
-    rest: Window,
-    texts: Texts,
+impl<'a> Shelf<'a> {
+    fn book(&self) -> &[u8] {
+        octets::part(self.space, 0, self.count)
+    }
+
+    // A book is laid over what the space held.
+    fn lay(&mut self, book: &[u8]) {
+        octets::put(self.space, 0, book);
+        self.count = book.len();
+    }
 }
 
 // ---- calls ----
 
-fn call_of(letter: u8) -> Call {
-    match letter {
-        b'C' => Call::Chosen,
-        b'I' => Call::Italian,
-        b'L' => Call::Pair,
-        b'E' => Call::Event,
-        _ => Call::Wrong,
+#[derive(Clone, Copy)]
+enum Call<'a> {
+    Chosen(&'a [u8]),
+    Italian(&'a [u8]),
+    Name(Code),
+}
+
+// Why no call follows: none is left, it is cut, or it is none.
+#[derive(Clone, Copy)]
+enum Stop {
+    End,
+    Cut,
+    Wrong,
+}
+
+impl Stop {
+    fn text(self) -> &'static [u8] {
+        match self {
+            Stop::End => b"",
+            Stop::Cut => b"cut\n",
+            Stop::Wrong => b"call\n",
+        }
     }
 }
 
@@ -56,263 +68,152 @@ fn length_in(read: &[u8]) -> usize {
 
 // How many octets a call with a book has, as far as those read tell; one that is too long has no more than its length.
 fn book_size(read: &[u8]) -> usize {
-    if read.len() < 4 {
-        return 4;
-    }
     let length = length_in(read);
-    if MOST < length {
-        return 4;
+    if read.len() < 4 || MOST < length {
+        4
+    } else {
+        4 + length
     }
-    4 + length
 }
 
 // How many octets a call has, as far as those read tell.
 fn call_size(read: &[u8]) -> usize {
-    if read.len() == 0 {
-        return 1;
-    }
-    match call_of(read[0]) {
-        Call::Chosen => book_size(read),
-        Call::Italian => book_size(read),
-        Call::Pair => 3,
-        Call::Event => 3,
+    match octets::octet_at(read, 0) {
+        b'C' | b'I' => book_size(read),
+        b'L' | b'E' => 3,
         _ => 1,
     }
 }
 
-fn with_book(read: &[u8], call: Call) -> Call {
+fn book_in(read: &[u8]) -> Result<&[u8], Stop> {
     if MOST < length_in(read) {
-        return Call::Wrong;
-    }
-    call
-}
-
-fn whole(read: &[u8]) -> Call {
-    match call_of(octets::octet_at(read, 0)) {
-        Call::Chosen => with_book(read, Call::Chosen),
-        Call::Italian => with_book(read, Call::Italian),
-        Call::Pair => Call::Pair,
-        Call::Event => Call::Event,
-        _ => Call::Wrong,
+        Err(Stop::Wrong)
+    } else {
+        Ok(octets::part(read, 4, read.len()))
     }
 }
 
 // What the octets read are, when no more come.
-fn call_in(read: &[u8]) -> Call {
-    if read.len() == 0 {
-        return Call::End;
-    }
+fn call_in(read: &[u8]) -> Result<Call<'_>, Stop> {
     if read.len() < call_size(read) {
-        return Call::Cut;
+        return Err(if read.is_empty() {
+            Stop::End
+        } else {
+            Stop::Cut
+        });
     }
-    whole(read)
-}
-
-// The window begins with a call. Each reading says how much more is to be read.
-fn read_call(input: Stdin, space: &mut [u8], window: Window) -> Window {
-    let letter = stream::filled(input, space, window, call_size(b""));
-    let start = stream::filled(input, space, letter, call_size(stream::seen(space, letter)));
-    let size = call_size(stream::seen(space, start));
-    stream::filled(input, space, start, size)
+    match read {
+        [b'C', ..] => Ok(Call::Chosen(book_in(read)?)),
+        [b'I', ..] => Ok(Call::Italian(book_in(read)?)),
+        [b'L', spa, spq, ..] => Ok(Call::Name(Code {
+            spa: *spa,
+            spq: *spq,
+        })),
+        [b'E', spa, octet, ..] => Ok(Call::Name(Code::of_event(*spa, *octet))),
+        _ => Err(Stop::Wrong),
+    }
 }
 
 // ---- lines ----
 
-fn with_number(text: Kept, n: usize) -> Kept {
-    let mut figures = itoa::Buffer::new();
-    text.with(figures.format(n as u64).as_bytes())
-}
+// No line is longer: three numbers, and a name of 40 octets in hex.
+type Line = InlineText<252>;
 
-fn figure(n: u8) -> u8 {
-    if n < 10 {
-        return 48 + n;
-    }
-    if n < 16 {
-        return 55 + n;
-    }
-    63
-}
+// Octets in hex.
+#[derive(Clone, Copy)]
+struct Pairs<'a>(&'a [u8]);
 
-// Octets in hex, and a dash where there are none.
-fn with_pairs(text: Kept, some: &[u8]) -> Kept {
-    let mut now = text;
-    if some.len() == 0 {
-        return text.with(b"-");
-    }
-    let mut i = 0;
-    while i < some.len() {
-        let octet = some[i];
-        now = now.with(&[figure(octet / 16), figure(octet % 16)]);
-        i += 1;
-    }
-    now
-}
-
-fn numbers(first: usize, second: usize) -> Kept {
-    with_number(with_number(Kept::new(), first).with(b" "), second)
-}
-
-fn check_line(book: &[u8]) -> Kept {
-    match names::check(book) {
-        Checked::Sound => numbers(0, 0).with(b"\n"),
-        Checked::Refused(number, entry) => numbers(number as usize, entry).with(b"\n"),
-    }
-}
-
-fn shown_line(number: usize, book: usize, entry: usize, name: &[u8]) -> Kept {
-    let text = with_number(numbers(number, book).with(b" "), entry).with(b" ");
-    with_pairs(text, name).with(b"\n")
-}
-
-fn look_up_line(looked_up: LookedUp, name: &[u8]) -> Kept {
-    let shown = looked_up.shown;
-    match shown {
-        Shown::Refused(book, number, entry) => {
-            shown_line(number as usize, book as usize, entry, name)
+impl fmt::Display for Pairs<'_> {
+    fn fmt<W: fmt::Write>(&self, f: &mut fmt::Formatter<W>) -> fmt::Result {
+        for octet in self.0 {
+            write!(f, "{octet:02X}")?;
         }
-        Shown::Chosen(entry) => shown_line(0, 1, entry, name),
-        Shown::Italian(entry) => shown_line(0, 2, entry, name),
-        Shown::Nothing => shown_line(0, 0, 0, name),
+        Ok(())
     }
 }
 
-fn looking_up<'a>(chosen: &'a [u8], italian: &'a [u8], code: Code) -> Kept {
-    let looked_up = names::look_up(chosen, italian, code);
-    look_up_line(looked_up, names::name_at(chosen, italian, looked_up))
+fn check_line(book: &[u8]) -> Line {
+    let (number, entry) = match names::check(book) {
+        Ok(()) => (0, 0),
+        Err(why) => (why.fault.number(), why.entry),
+    };
+    Line::of(format_args!("{number} {entry}\n"))
+}
+
+fn found_line(found: Found, name: &[u8]) -> Line {
+    let book = found.book as u8;
+    let entry = found.entry;
+    let name = Pairs(name);
+    Line::of(format_args!("0 {book} {entry} {name}\n"))
+}
+
+fn refusal_line(refusal: Refusal) -> Line {
+    let number = refusal.why.fault.number();
+    let book = refusal.book as u8;
+    let entry = refusal.why.entry;
+    Line::of(format_args!("{number} {book} {entry} -\n"))
+}
+
+fn name_line(chosen: &[u8], italian: &[u8], code: Code) -> Line {
+    match names::look_up(chosen, italian, code) {
+        Ok(Some(found)) => found_line(found, names::name_at(chosen, italian, found)),
+        Ok(None) => Line::of("0 0 0 -\n"),
+        Err(refusal) => refusal_line(refusal),
+    }
 }
 
 // ---- what is done ----
 
-// A line waits, and what waits is written where it is the last.
-fn saying(output: Stdout, shelf: Shelf, line: Kept, more: bool, block: &mut [u8]) -> Shelf {
-    let octets = line.octets;
-    let text = octets::part(&octets, 0, line.length as usize);
-    let mut next = shelf;
-    next.texts = stream::tell(output, block, shelf.texts, text, more);
-    next
-}
-
-// A book is laid over what its space held. Answers how many octets it has.
-fn laid(space: &mut [u8], book: &[u8]) -> usize {
-    octets::put(space, 0, book);
-    book.len()
-}
-
-fn asked<'a>(
-    output: Stdout,
-    shelf: Shelf,
-    code: Code,
-    chosen: &'a [u8],
-    italian: &'a [u8],
-    block: &mut [u8],
-) -> Shelf {
-    let first = octets::part(chosen, 0, shelf.chosen);
-    let second = octets::part(italian, 0, shelf.italian);
-    saying(output, shelf, looking_up(first, second, code), true, block)
-}
-
-fn last(output: Stdout, shelf: Shelf, line: &[u8], block: &mut [u8]) -> Shelf {
-    saying(output, shelf, Kept::new().with(line), false, block)
-}
-
-fn done<'a>(
-    output: Stdout,
-    shelf: Shelf,
-    read: &[u8],
-    chosen: &'a mut [u8],
-    italian: &'a mut [u8],
-    block: &mut [u8],
-) -> Shelf {
-    let spa = octets::octet_at(read, 1);
-    let spq = octets::octet_at(read, 2);
-    let book = octets::part(read, 4, read.len());
-    let mut next = shelf;
-    match call_in(read) {
-        Call::End => last(output, shelf, b"", block),
-        Call::Cut => last(output, shelf, b"cut\n", block),
-        Call::Wrong => last(output, shelf, b"call\n", block),
-        Call::Chosen => {
-            next.chosen = laid(chosen, book);
-            saying(output, next, check_line(book), true, block)
+// A call is done, and its line waits; or what ends the calls is told, and what waits is written.
+fn done(to: &mut Output<'_>, chosen: &mut Shelf<'_>, italian: &mut Shelf<'_>, read: &[u8]) {
+    let line = match call_in(read) {
+        Ok(Call::Chosen(book)) => {
+            chosen.lay(book);
+            check_line(book)
         }
-        Call::Italian => {
-            next.italian = laid(italian, book);
-            saying(output, next, check_line(book), true, block)
+        Ok(Call::Italian(book)) => {
+            italian.lay(book);
+            check_line(book)
         }
-        Call::Pair => asked(output, shelf, Code { spa, spq }, chosen, italian, block),
-        Call::Event => asked(
-            output,
-            shelf,
-            Code::of_event(spa, spq),
-            chosen,
-            italian,
-            block,
-        ),
-    }
+        Ok(Call::Name(code)) => name_line(chosen.book(), italian.book(), code),
+        Err(stop) => {
+            to.tell(stop.text(), false);
+            return;
+        }
+    };
+    to.tell(line.as_str().as_bytes(), true);
 }
 
-// What waits is written where the next call is still to be read.
-fn before_reading(output: Stdout, block: &[u8], texts: Texts, read: &[u8]) -> Texts {
-    if read.len() < call_size(read) {
-        return stream::out(output, block, texts);
-    }
-    texts
-}
-
-// The next call of the input.
+// The next call of the input. What waits is written where it is still to be read.
 fn turn(
-    input: Stdin,
-    output: Stdout,
-    shelf: Shelf,
-    space: &mut [u8],
-    chosen: &mut [u8],
-    italian: &mut [u8],
-    block: &mut [u8],
-) -> Shelf {
-    let mut next = shelf;
-    next.texts = before_reading(output, block, shelf.texts, stream::seen(space, shelf.rest));
-    let window = read_call(input, space, shelf.rest);
-    let read = stream::seen(space, window);
+    from: &mut Input<'_>,
+    to: &mut Output<'_>,
+    chosen: &mut Shelf<'_>,
+    italian: &mut Shelf<'_>,
+) {
+    let read = from.seen();
+    if read.len() < call_size(read) {
+        to.out();
+    }
+    from.read(call_size);
+    let read = from.seen();
     let size = call_size(read);
-    next.rest = stream::taken(window, size);
-    done(
-        output,
-        next,
-        octets::part(read, 0, size),
-        chosen,
-        italian,
-        block,
-    )
+    done(to, chosen, italian, octets::part(read, 0, size));
+    from.take(size);
 }
 
 // Calls until the input ends. A loop must end, so it has a budget that no input uses up.
 fn calls(
-    input: Stdin,
-    output: Stdout,
-    space: &mut [u8],
-    chosen: &mut [u8],
-    italian: &mut [u8],
-    block: &mut [u8],
+    from: &mut Input<'_>,
+    to: &mut Output<'_>,
+    chosen: &mut Shelf<'_>,
+    italian: &mut Shelf<'_>,
 ) {
-    let mut shelf = Shelf {
-        chosen: 0,
-        italian: 0,
-        rest: Window { from: 0, to: 0 },
-        texts: Texts {
-            count: 0,
-            going: true,
-        },
-    };
-    let mut number = 0u64;
-    while number < u64::MAX {
-        number += 1;
-        let next = turn(input, output, shelf, space, chosen, italian, block);
-        let texts = next.texts;
-        if texts.going {
-            shelf = next;
-        } else {
+    for _ in 0..u64::MAX {
+        if !to.texts.going {
             return;
         }
+        turn(from, to, chosen, italian);
     }
 }
 
@@ -322,11 +223,23 @@ fn main(rt: HostRuntime) {
     let mut italian = [0u8; 1500000];
     let mut block = [0u8; 4096];
     calls(
-        rt.stdin(),
-        rt.stdout(),
-        &mut space,
-        &mut chosen,
-        &mut italian,
-        &mut block,
+        &mut Input {
+            from: rt.stdin(),
+            space: &mut space,
+            window: Window::default(),
+        },
+        &mut Output {
+            to: rt.stdout(),
+            block: &mut block,
+            texts: Texts::NONE,
+        },
+        &mut Shelf {
+            space: &mut chosen,
+            count: 0,
+        },
+        &mut Shelf {
+            space: &mut italian,
+            count: 0,
+        },
     );
 }

@@ -11,14 +11,13 @@ use lib.Dec.{ltb, eqb}
 use lib.ListN.{length, get_or, take, drop, length-take}
 use lib.Seq.{get_or-take, length-take-le, take_all}
 use Rattle.octets.proofs.Choice.{either, not_both}
-use Rattle.octets.proofs.Outcome.{never}
 use Rattle.names.specs.declared.Code.{Code}
-use Rattle.names.specs.declared.Checked.{Checked}
-use Rattle.names.specs.declared.Checked.TheVariants.{Sound, Refused}
+use Rattle.names.specs.declared.Fault.{Fault}
+use Rattle.std.specs.Prelude.{Option, Some, None, Ok, Err}
 use Rattle.names.specs.Codes.{code}
-use Rattle.names.specs.Book.{code_of, length_of, entries, entries_of, in_order, fault_of, first_fault, checked}
+use Rattle.names.specs.Book.{code_of, length_of, entries, entries_of, in_order, Checked, Sound, Refused, unless_faulty, fault_of, first_fault, checked}
 use Rattle.names.specs.EventNames.{Right, Rises, code_at, InOrder, book_of, SoundBook, Check, SoundOnly, OnlyCheck, Deserves, FirstFaulty, FaultNamed, AllThere}
-use Rattle.names.proofs.Order.{so_rises, Verdict, cut, unnamed, unordered, passes, verdict, fine, so_sound, any_rise, each_fine, so_passes}
+use Rattle.names.proofs.Order.{not_sound, so_rises, Verdict, cut, unnamed, unordered, verdict, fine, so_sound, any_rise, each_fine, so_passes}
 use Rattle.names.proofs.Laid.{laid_again, no_longer, whole_but_last, found_again}
 
 -- ---- a book and its entries ----
@@ -73,7 +72,7 @@ pub said_sound : (book : List ℕ) → checked book ≡ Sound → SaidSound book
 unfolding checked
 said_sound book =
     either (λ (v : Checked). v ≡ Sound → SaidSound book) (eqb (get_or book 0 0) 1)
-    (λ f q. record { version = eqb-true _ _ f; ordered = entries_in_order book q }) (λ f q. absurd (never cc))
+    (λ f q. record { version = eqb-true _ _ f; ordered = entries_in_order book q }) (λ f q. absurd (not_sound q))
 
 pub sound_only : SoundOnly checked
 unfolding checked
@@ -95,42 +94,56 @@ last_code_law before e [] = refl
 last_code_law before e (f ∷ es) = last_code_law (code_of e) f es
 
 -- entries of which one is refused: those before it pass, and it does not
-record Faulty (number : ℕ) (before : Code) (es : List (List ℕ)) (fault k : ℕ) : Type 0 where
+record Faulty (number : ℕ) (before : Code) (es : List (List ℕ)) (fault : Fault) (k : ℕ) : Type 0 where
   from : number ≤ k
   to : k < number + length es
   prior : first_fault number before (take (k - number) es) ≡ Sound
-  found : Verdict k (last_code before (take (k - number) es)) (get_or es (k - number) []) fault
-  some : fault ≡ 0 → ⊥
+  found : Verdict k (last_code before (take (k - number) es)) (get_or es (k - number) []) (Some fault)
 
-faulty : (number : ℕ) (before : Code) (es : List (List ℕ)) {fault k : ℕ} → first_fault number before es ≡ Refused fault k → Faulty number before es fault k
+sound_refused : {fault : Fault} {k : ℕ} → Sound ≡ Refused fault k → ⊥
+sound_refused q = cc
+
+abbrev fault_or : Fault → Checked → Fault
+fault_or other (Ok v) = other
+fault_or other (Err why) = why.fault
+
+abbrev entry_or : Checked → ℕ
+entry_or (Ok v) = 0
+entry_or (Err why) = why.entry
+
+same_fault : {fault fault' : Fault} {k k' : ℕ} → Refused fault k ≡ Refused fault' k' → (fault ≡ fault') × (k ≡ k')
+same_fault {fault} q = (ap (fault_or fault) q, ap entry_or q)
+
+faulty : (number : ℕ) (before : Code) (es : List (List ℕ)) {fault : Fault} {k : ℕ} → first_fault number before es ≡ Refused fault k → Faulty number before es fault k
 unfolding first_fault
-faulty number before [] = λ q. absurd (never cc)
-faulty number before (e ∷ es) {fault} {k} =
-    either (λ (v : Checked). v ≡ Refused fault k → Faulty number before (e ∷ es) fault k) (eqb (fault_of number before e) 0)
-    (λ f q. later f (faulty (number + 1) (code_of e) es q))
-    (λ f q. here f (cc) (cc))
+faulty number before [] = λ q. absurd (sound_refused q)
+faulty number before (e ∷ es) {fault} {k} = by_fault (λ q. faulty (number + 1) (code_of e) es q) (fault_of number before e) refl
   where
-    later : eqb (fault_of number before e) 0 ≡ true → Faulty (number + 1) (code_of e) es fault k → Faulty number before (e ∷ es) fault k
+    later : fault_of number before e ≡ None → Faulty (number + 1) (code_of e) es fault k → Faulty number before (e ∷ es) fault k
     later f l =
         let next : k - number ≡ suc (k - (number + 1)) = omega (arith, l.from) in
         record {
           from = omega (arith, l.from);
           to = omega (arith, l.to);
-          prior = rw next (so_sound number before e (take (k - (number + 1)) es) (fine number before e (eqb-true _ _ f)) l.prior);
+          prior = rw next (so_sound number before e (take (k - (number + 1)) es) (fine number before e f) l.prior);
           found = rw next l.found;
-          some = l.some;
         }
 
-    here : eqb (fault_of number before e) 0 ≡ false → fault_of number before e ≡ fault → number ≡ k → Faulty number before (e ∷ es) fault k
-    here f q r =
+    here : fault_of number before e ≡ Some fault → number ≡ k → Faulty number before (e ∷ es) fault k
+    here q r =
         let zeroth : k - number ≡ 0 = omega arith in
         record {
           from = omega arith;
           to = omega arith;
           prior = rw zeroth refl;
           found = rw (zeroth, ← r, ← q) (verdict number before e);
-          some = λ z. eqb-false _ _ f (q ∙ z);
         }
+
+    by_fault : (first_fault (number + 1) (code_of e) es ≡ Refused fault k → Faulty (number + 1) (code_of e) es fault k)
+        → (v : Option Fault) → fault_of number before e ≡ v → unless_faulty v number (first_fault (number + 1) (code_of e) es) ≡ Refused fault k
+        → Faulty number before (e ∷ es) fault k
+    by_fault behind None f q = later f (behind q)
+    by_fault behind (Some own) f q = let same = same_fault q in here (f ∙ ap (λ (x : Fault). Some x) same.0) same.1
 
 -- an entry that is out of order is not the first, and does not rise
 out_of_order : (k : ℕ) (before own : Code) → in_order k before own ≡ false → (k ≡ 1 → ⊥) × (Rises before own → ⊥)
@@ -139,7 +152,7 @@ out_of_order k before own o =
     (λ e. not_both o (rw (eq-eqb k 1 e)), λ r. not_both o (either (λ (t : Bool). t ≡ true) (eqb k 1) (λ f. refl) (λ f. so_rises before own r)))
 
 -- of the entries of octets, the one that is refused deserves it
-module _ (s : List ℕ) (fault k : ℕ) (l : Faulty 1 (code 0 0) (entries s) fault k) where
+module _ (s : List ℕ) (fault : Fault) (k : ℕ) (l : Faulty 1 (code 0 0) (entries s) fault k) where
   abbrev front : List (List ℕ)
   front = take (k - 1) (entries s)
 
@@ -154,18 +167,17 @@ module _ (s : List ℕ) (fault k : ℕ) (l : Faulty 1 (code 0 0) (entries s) fau
   code_before [] h = absurd (omega arith)
   code_before (e ∷ es) h = let less : length (e ∷ es) - 1 ≡ length es = omega arith in rw less (last_code_law (code 0 0) e es)
 
-  deserves : {n : ℕ} → Verdict k (last_code (code 0 0) front) own n → (n ≡ 0 → ⊥) → Deserves n front own
-  deserves (cut h) z = inl (refl, h)
-  deserves (unnamed h m) z = inr (inl (refl, omega (arith, no_longer s (k - 1)), m))
-  deserves (unordered h some most o) z =
+  deserves : {n : Fault} → Verdict k (last_code (code 0 0) front) own (Some n) → Deserves n front own
+  deserves (cut h) = inl (refl, h)
+  deserves (unnamed h m) = inr (inl (refl, omega (arith, no_longer s (k - 1)), m))
+  deserves (unordered h some most o) =
       let wrong = out_of_order k (last_code (code 0 0) front) (code_of own) o in
       let behind : 1 ≤ length front = omega (arith, front_length, l.from, wrong.0) in
       inr
       (inr
       (refl, record { whole = omega (arith, no_longer s (k - 1)); some = some; most = most }, behind, λ r. wrong.1 (rw (code_before front behind) r)))
-  deserves (passes f) z = absurd (z refl)
 
-named : (book : List ℕ) (fault k : ℕ) → get_or book 0 0 ≡ 1 → checked book ≡ Refused fault k → FirstFaulty book fault k
+named : (book : List ℕ) (fault : Fault) (k : ℕ) → get_or book 0 0 ≡ 1 → checked book ≡ Refused fault k → FirstFaulty book fault k
 unfolding checked entries_of
 named book fault k e q =
     let l = faulty 1 (code 0 0) (entries (drop 1 book)) (rw (eq-eqb (get_or book 0 0) 1 e) at q) in
@@ -173,7 +185,7 @@ named book fault k e q =
       from_1 = l.from;
       there = omega (arith, l.to);
       before_in_order = in_order_law (drop 1 book) (k - 1) l.prior;
-      deserved = deserves (drop 1 book) fault k l l.found l.some;
+      deserved = deserves (drop 1 book) fault k l l.found;
     }
 
 pub fault_named : FaultNamed checked
@@ -188,7 +200,7 @@ unnamed_right (inl h) r = omega (arith, r.some)
 unnamed_right (inr h) r = omega (arith, r.most)
 
 -- no entry deserves two refusals, and none that is right and rises deserves one
-one_deserved : (m n : ℕ) (before : List (List ℕ)) (e : List ℕ) → Deserves m before e → Deserves n before e → m ≡ n
+one_deserved : (m n : Fault) (before : List (List ℕ)) (e : List ℕ) → Deserves m before e → Deserves n before e → m ≡ n
 one_deserved m n before e (inl a) (inl b) = a.0 ∙ sym b.0
 one_deserved m n before e (inl a) (inr (inl b)) = absurd (omega (arith, a.1, b.1))
 one_deserved m n before e (inl a) (inr (inr b)) = absurd (omega (arith, a.1, b.1.whole))
@@ -199,14 +211,14 @@ one_deserved m n before e (inr (inr a)) (inl b) = absurd (omega (arith, b.1, a.1
 one_deserved m n before e (inr (inr a)) (inr (inl b)) = absurd (unnamed_right b.2 a.1)
 one_deserved m n before e (inr (inr a)) (inr (inr b)) = a.0 ∙ sym b.0
 
-none_deserved : (n : ℕ) (before : List (List ℕ)) (e : List ℕ) → Right e → (1 ≤ length before → Rises (code_at before (length before - 1)) (code_of e))
+none_deserved : (n : Fault) (before : List (List ℕ)) (e : List ℕ) → Right e → (1 ≤ length before → Rises (code_at before (length before - 1)) (code_of e))
     → Deserves n before e → ⊥
 none_deserved n before e r rise (inl a) = omega (arith, a.1, r.whole)
 none_deserved n before e r rise (inr (inl a)) = unnamed_right a.2 r
 none_deserved n before e r rise (inr (inr a)) = a.3 (rise a.2)
 
 -- of two entries that are named the earlier would be in order
-not_earlier : (book : List ℕ) (m n j k : ℕ) → FirstFaulty book m j → FirstFaulty book n k → j < k → ⊥
+not_earlier : (book : List ℕ) (m n : Fault) (j k : ℕ) → FirstFaulty book m j → FirstFaulty book n k → j < k → ⊥
 not_earlier book m n j k f g h =
     let es = entries_of book in
     let o = g.before_in_order in
@@ -221,7 +233,7 @@ not_earlier book m n j k f g h =
     rw (last, ← at_j) (o.rising (j - 2) (j - 1) (omega arith) (omega arith)))
     f.deserved
 
-one_named : (book : List ℕ) (m n j k : ℕ) → FirstFaulty book m j → FirstFaulty book n k → (m ≡ n) × (j ≡ k)
+one_named : (book : List ℕ) (m n : Fault) (j k : ℕ) → FirstFaulty book m j → FirstFaulty book n k → (m ≡ n) × (j ≡ k)
 one_named book m n j k f g = by_tests (ltb j k) refl (ltb k j) refl
   where
     same : j ≡ k → m ≡ n
@@ -234,12 +246,12 @@ one_named book m n j k f g = by_tests (ltb j k) refl (ltb k j) refl
 
 module _ (check : Check) (s : SoundOnly check) (f : FaultNamed check) (book : List ℕ) where
   by_answers : get_or book 0 0 ≡ 1 → (v w : Checked) → check book ≡ v → checked book ≡ w → v ≡ w
-  by_answers e Sound Sound p q = refl
-  by_answers e Sound (Refused n k) p q = sym (sound_only.of_all book (s.said book p)) ∙ q
-  by_answers e (Refused m j) Sound p q = sym p ∙ s.of_all book (sound_only.said book q)
-  by_answers e (Refused m j) (Refused n k) p q =
-      let same = one_named book m n j k (f.entry book m j e p) (fault_named.entry book n k e q) in
-      rw (same.0, same.1)
+  by_answers e (Ok v) (Ok w) p q = refl
+  by_answers e (Ok v) (Err w) p q = sym (sound_only.of_all book (s.said book p)) ∙ q
+  by_answers e (Err v) (Ok w) p q = sym p ∙ s.of_all book (sound_only.said book q)
+  by_answers e (Err v) (Err w) p q =
+      let same = one_named book v.fault w.fault v.entry w.entry (f.entry book v.fault v.entry e p) (fault_named.entry book w.fault w.entry e q) in
+      ap (λ (x : Fault). Refused x v.entry) same.0 ∙ ap (λ (k : ℕ). Refused w.fault k) same.1
 
   by_version : (t : Bool) → eqb (get_or book 0 0) 1 ≡ t → check book ≡ checked book
   by_version true v = by_answers (eqb-true _ _ v) (check book) (checked book) refl refl

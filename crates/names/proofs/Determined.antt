@@ -2,6 +2,7 @@
 -- By its one equation. Assumes nothing.
 use Rattle.octets.proofs.Outcome.{OneResult, OneReading, one_outcome}
 use Rattle.names.proofs.Code.of_event.Reads as of_event
+use Rattle.names.proofs.Fault.number.Reads as number
 use Rattle.names.proofs.check.Reads as check
 use Rattle.names.proofs.look_up.Reads as look_up
 use Rattle.names.proofs.name_at.Reads as name_at
@@ -9,6 +10,9 @@ use Rattle.names.proofs.name.Reads as name
 
 of_event_one : OneResult of_event.Post
 of_event_one κs a r r' s s' = one_outcome
+
+number_one : OneResult number.Post
+number_one κs a r r' s s' = one_outcome
 
 check_one : OneResult check.Post
 check_one κs a r r' s s' = one_outcome

@@ -11,9 +11,15 @@ use lib.ListN.{length, get_or, take, drop, length-take, length-drop, drop_of_len
 use lib.Seq.{drop-drop, get_or-drop, get_or-take, length-take-le, take-nil}
 use Rattle.octets.specs.Choice.{when◌then◌else◌}
 use Rattle.names.specs.declared.Code.{Code}
+use Rattle.names.specs.declared.Fault.TheVariants.{Cut, Name, Order}
+use Rattle.std.specs.Prelude.{Option, Some, None}
 use Rattle.names.specs.Codes.{code}
 use Rattle.names.specs.Book.{code_of, length_of, size_of, name_of, walk, entries, in_order, fault_of}
 use Rattle.names.specs.working.Pass.{entry_at, entries_from}
+
+-- something is not nothing
+pub some_none : {A : Type 0} {x : A} → ◌≡◌ {A = Option A} (Some x) None → ⊥
+some_none e = cc
 
 pub enough : (m n : ℕ) (s : List ℕ) → length s ≤ m → length s ≤ n → walk m s ≡ walk n s
 unfolding walk
@@ -88,19 +94,19 @@ module _ (s : List ℕ) (at : ℕ) where
 
   -- its fault: cut, or by its length and its code
   module _ (number : ℕ) (before : Code) where
-    pub fault_cut : at ≤ length s → length s < at + 3 + get_or s (at + 2) 0 → fault_of number before (entry_at s at) ≡ 2
+    pub fault_cut : at ≤ length s → length s < at + 3 + get_or s (at + 2) 0 → fault_of number before (entry_at s at) ≡ Some Cut
     unfolding fault_of
     fault_cut h k = rw (lt-ltb (length (entry_at s at)) (size_of (entry_at s at)) (omega (arith, entry_most, length_of_law)))
 
     pub fault_fits : at + 3 + get_or s (at + 2) 0 ≤ length s
         → fault_of number before (entry_at s at)
-        ≡ (when eqb (get_or s (at + 2) 0) 0 then 3 else when ltb 40 (get_or s (at + 2) 0) then 3 else when not (in_order number before (code_of (entry_at s at))) then 4 else 0)
+        ≡ (when eqb (get_or s (at + 2) 0) 0 then Some Name else when ltb 40 (get_or s (at + 2) 0) then Some Name else when not (in_order number before (code_of (entry_at s at))) then Some Order else None)
     unfolding fault_of
     fault_fits h = rw (le-ltb (length (entry_at s at)) (size_of (entry_at s at)) (omega (arith, entry_whole h, length_of_law)), length_of_law)
 
-    pub fault_none : at ≤ length s → fault_of number before (entry_at s at) ≡ 0 → at + 3 + get_or s (at + 2) 0 ≤ length s
+    pub fault_none : at ≤ length s → fault_of number before (entry_at s at) ≡ None → at + 3 + get_or s (at + 2) 0 ≤ length s
     fault_none h e = by_test (leb (at + 3 + get_or s (at + 2) 0) (length s)) refl
       where
         by_test : (t : Bool) → leb (at + 3 + get_or s (at + 2) 0) (length s) ≡ t → at + 3 + get_or s (at + 2) 0 ≤ length s
         by_test true f = leb-true _ _ f
-        by_test false f = absurd (omega (arith, fault_cut h (leb-false _ _ f)))
+        by_test false f = let cut = sym (fault_cut h (leb-false _ _ f)) ∙ e in absurd (some_none cut)

@@ -13,19 +13,19 @@ use Rattle.octets.specs.Choice.{when◌then◌else◌}
 use Rattle.octets.proofs.Choice.{either, if_both}
 use Rattle.octets.proofs.Outcome.{never}
 use Rattle.names.specs.declared.Code.{Code}
-use Rattle.names.specs.declared.Checked.{Checked}
-use Rattle.names.specs.declared.Checked.TheVariants as checks
+use Rattle.names.specs.declared.Fault.{Fault}
 use Rattle.names.specs.declared.Place.{Place}
-use Rattle.names.specs.declared.Shown.{Shown}
-use Rattle.names.specs.declared.Shown.TheVariants.{Refused, Chosen, Italian, Nothing}
-use Rattle.names.specs.declared.LookedUp.{LookedUp}
+use Rattle.names.specs.declared.Which.TheVariants as which
+use Rattle.std.specs.Prelude.{Option, Some, None, Ok, Err}
 use Rattle.names.specs.Codes.{same_code}
-use Rattle.names.specs.Book.{code_of, length_of, size_of, name_of, entries_of, checked}
-use Rattle.names.specs.LookUp.{showing, find_in, find, unless_refused, from_either, looked_up, name_in, name_of_shown, name_shown}
+use Rattle.names.specs.Book.{code_of, length_of, size_of, name_of, entries_of, Checked, checked}
+use Rattle.names.specs.Book as checks
+use Rattle.names.specs.LookUp.{LookedUp, Shown, Refused, Chosen, Italian, Nothing, shown_of, find_in, find, number_found, unless_refused, from_either, looked_up, name_in, name_of_shown, name_shown}
+use Rattle.names.specs.Answers.{book_number}
 use Rattle.names.specs.working.Pass.{entry_at}
 use Rattle.names.specs.EventNames.{LookUp, Right, Rises, code_at, InOrder, book_of, SoundBook, shown_for, CheckedFirst, Has, HasNot, AtMostOne, Finds, FoundExactly, OnlyLookUp, codes, NamesKept, translated, Names, Translated, Stands, InItsBook, NameShown}
 use Rattle.names.proofs.Entries.{entry_most}
-use Rattle.names.proofs.Places.{missed, found_in}
+use Rattle.names.proofs.Places.{at_found, many_found, Numbered, find_numbered, found_numbered, missed, found_in}
 use Rattle.names.proofs.Shows.{by_shown, cut_is_name}
 use Rattle.names.proofs.Order.{not_itself}
 use Rattle.names.proofs.Books.{sound_only, said_sound, its_entries}
@@ -33,12 +33,12 @@ use Rattle.names.proofs.Books.{sound_only, said_sound, its_entries}
 -- ---- the books are checked first ----
 
 module _ (wanted : Code) (chosen italian : List ℕ) where
-  pub chosen_refused : {number entry : ℕ} → checked chosen ≡ checks.Refused number entry → looked_up wanted chosen italian ≡ showing (Refused 1 number entry) 0 0
+  pub chosen_refused : {fault : Fault} {entry : ℕ} → checked chosen ≡ checks.Refused fault entry → shown_of (looked_up wanted chosen italian) ≡ Refused which.Chosen fault entry
   unfolding looked_up unless_refused
   chosen_refused q = rw q
 
-  italian_refused : {number entry : ℕ} → checked chosen ≡ checks.Sound → checked italian ≡ checks.Refused number entry
-      → looked_up wanted chosen italian ≡ showing (Refused 2 number entry) 0 0
+  italian_refused : {fault : Fault} {entry : ℕ} → checked chosen ≡ checks.Sound → checked italian ≡ checks.Refused fault entry
+      → shown_of (looked_up wanted chosen italian) ≡ Refused which.Italian fault entry
   unfolding looked_up unless_refused
   italian_refused c q = rw (c, q)
 
@@ -47,13 +47,10 @@ module _ (wanted : Code) (chosen italian : List ℕ) where
   unfolding looked_up unless_refused
   both_sound c i = rw (c, i)
 
-abbrev shown_in : LookedUp → Shown
-shown_in l = l.shown
-
 pub checked_first : CheckedFirst shown_for
 checked_first = record {
-  chosen_first = λ chosen italian number entry q wanted. ap shown_in (chosen_refused wanted chosen italian q);
-  italian_then = λ chosen italian number entry c q wanted. ap shown_in (italian_refused wanted chosen italian c q);
+  chosen_first = λ chosen italian fault entry q wanted. chosen_refused wanted chosen italian q;
+  italian_then = λ chosen italian fault entry c q wanted. italian_refused wanted chosen italian c q;
 }
 
 -- ---- one entry of a code at most ----
@@ -74,31 +71,31 @@ at_most_one book b wanted j k h g = by_tests (ltb j k) refl (ltb k j) refl
 -- ---- what is found in a sound book ----
 
 module _ (wanted : Code) {book : List ℕ} (b : SoundBook book) where
-  found_has : 0 < (find wanted book).number → Has b.its wanted (find wanted book).number
+  found_has : 0 < number_found (find wanted book) → Has b.its wanted (number_found (find wanted book))
   found_has h =
       let l = found_in wanted book h in
       let same = its_entries b in
-      let most : (find wanted book).number ≤ length (entries_of book) = omega (arith, l.to) in
+      let most : number_found (find wanted book) ≤ length (entries_of book) = omega (arith, l.to) in
       (l.from, rw same at most, rw same at l.code_so)
 
-  none_has : (find wanted book).number ≡ 0 → HasNot b.its wanted
+  none_has : number_found (find wanted book) ≡ 0 → HasNot b.its wanted
   none_has q k h =
       let same = its_entries b in
       missed wanted 1 1 (entries_of book) (omega arith) (unfold find in q) (k - 1) (rw same (omega (arith, h.0, h.1))) (rw same h.2)
 
-  has_found : (k : ℕ) → Has b.its wanted k → (find wanted book).number ≡ k
-  has_found k h = by_test (ltb 0 (find wanted book).number) refl
+  has_found : (k : ℕ) → Has b.its wanted k → number_found (find wanted book) ≡ k
+  has_found k h = by_test (ltb 0 (number_found (find wanted book))) refl
     where
-      by_test : (t : Bool) → ltb 0 (find wanted book).number ≡ t → (find wanted book).number ≡ k
-      by_test true f = at_most_one book b wanted (find wanted book).number k (found_has (ltb-true _ _ f)) h
-      by_test false f = absurd (none_has (omega (arith, ltb-false 0 (find wanted book).number f)) k h)
+      by_test : (t : Bool) → ltb 0 (number_found (find wanted book)) ≡ t → number_found (find wanted book) ≡ k
+      by_test true f = at_most_one book b wanted (number_found (find wanted book)) k (found_has (ltb-true _ _ f)) h
+      by_test false f = absurd (none_has (omega (arith, ltb-false 0 (number_found (find wanted book)) f)) k h)
 
-  has_not_found : HasNot b.its wanted → (find wanted book).number ≡ 0
-  has_not_found n = by_test (ltb 0 (find wanted book).number) refl
+  has_not_found : HasNot b.its wanted → number_found (find wanted book) ≡ 0
+  has_not_found n = by_test (ltb 0 (number_found (find wanted book))) refl
     where
-      by_test : (t : Bool) → ltb 0 (find wanted book).number ≡ t → (find wanted book).number ≡ 0
-      by_test true f = absurd (n (find wanted book).number (found_has (ltb-true _ _ f)))
-      by_test false f = omega (arith, ltb-false 0 (find wanted book).number f)
+      by_test : (t : Bool) → ltb 0 (number_found (find wanted book)) ≡ t → number_found (find wanted book) ≡ 0
+      by_test true f = absurd (n (number_found (find wanted book)) (found_has (ltb-true _ _ f)))
+      by_test false f = omega (arith, ltb-false 0 (number_found (find wanted book)) f)
 
 -- ---- what is shown ----
 
@@ -106,16 +103,17 @@ module _ (wanted : Code) {book : List ℕ} (b : SoundBook book) where
 by_numbers : ℕ → ℕ → Shown
 by_numbers m n = when ltb 0 m then Chosen m else when ltb 0 n then Italian n else Nothing
 
-shown_by : (p q : Place) → (from_either p q).shown ≡ by_numbers p.number q.number
+shown_by : (p q : Option Place) → Numbered p → Numbered q → shown_of (from_either p q) ≡ by_numbers (number_found p) (number_found q)
 unfolding from_either by_numbers
-shown_by p q =
-    if_both (λ (l : LookedUp) (s : Shown). l.shown ≡ s) (ltb 0 p.number) (λ f. refl)
-    (λ f. if_both (λ (l : LookedUp) (s : Shown). l.shown ≡ s) (ltb 0 q.number) (λ g. refl) (λ g. refl))
+shown_by (Some p) q n m = rw (lt-ltb 0 p.number n) refl
+shown_by None (Some q) n m = rw (lt-ltb 0 q.number m) refl
+shown_by None None n m = refl
 
 sound_shown : (wanted : Code) {chosen italian : List ℕ} → SoundBook chosen → SoundBook italian
-    → shown_for wanted chosen italian ≡ by_numbers (find wanted chosen).number (find wanted italian).number
+    → shown_for wanted chosen italian ≡ by_numbers (number_found (find wanted chosen)) (number_found (find wanted italian))
 sound_shown wanted {chosen} {italian} c i =
-    ap shown_in (both_sound wanted chosen italian (sound_only.of_all chosen c) (sound_only.of_all italian i)) ∙ shown_by (find wanted chosen) (find wanted italian)
+    ap shown_of (both_sound wanted chosen italian (sound_only.of_all chosen c) (sound_only.of_all italian i))
+    ∙ shown_by (find wanted chosen) (find wanted italian) (find_numbered wanted chosen) (find_numbered wanted italian)
 
 -- three cases
 data Case (m n : ℕ) : Shown → Type 0 where
@@ -129,28 +127,42 @@ case m n =
     either (Case m n) (ltb 0 m) (λ f. in_chosen (ltb-true _ _ f))
     (λ f. either (Case m n) (ltb 0 n) (λ g. in_italian (omega (arith, ltb-false 0 m f)) (ltb-true _ _ g)) (λ g. in_neither (omega (arith, ltb-false 0 m f)) (omega (arith, ltb-false 0 n g))))
 
+-- what is shown, told apart: the book that has the name, and the entry
+abbrev pub kind : Shown → ℕ
+kind (Ok (Some n)) = book_number n.book
+kind (Ok None) = 0
+kind (Err r) = 3
+
+abbrev pub entry_shown : Shown → ℕ
+entry_shown (Ok (Some n)) = n.entry
+entry_shown (Ok None) = 0
+entry_shown (Err r) = r.why.entry
+
+pub apart : {s t : Shown} → (kind s ≡ kind t → ⊥) → s ≡ t → ⊥
+apart n e = n (ap kind e)
+
 module _ (m n k : ℕ) where
   is_chosen : {s : Shown} → Case m n s → s ≡ Chosen k → (0 < m) × (m ≡ k)
-  is_chosen (in_chosen h) q = (h, cc)
-  is_chosen (in_italian h g) q = absurd (never cc)
-  is_chosen (in_neither h g) q = absurd (never cc)
+  is_chosen (in_chosen h) q = (h, ap entry_shown q)
+  is_chosen (in_italian h g) q = absurd (apart (λ e. omega arith) q)
+  is_chosen (in_neither h g) q = absurd (apart (λ e. omega arith) q)
 
   is_italian : {s : Shown} → Case m n s → s ≡ Italian k → (m ≡ 0) × (0 < n) × (n ≡ k)
-  is_italian (in_chosen h) q = absurd (never cc)
-  is_italian (in_italian h g) q = (h, g, cc)
-  is_italian (in_neither h g) q = absurd (never cc)
+  is_italian (in_chosen h) q = absurd (apart (λ e. omega arith) q)
+  is_italian (in_italian h g) q = (h, g, ap entry_shown q)
+  is_italian (in_neither h g) q = absurd (apart (λ e. omega arith) q)
 
 is_nothing : {m n : ℕ} {s : Shown} → Case m n s → s ≡ Nothing → (m ≡ 0) × (n ≡ 0)
-is_nothing (in_chosen h) q = absurd (never cc)
-is_nothing (in_italian h g) q = absurd (never cc)
+is_nothing (in_chosen h) q = absurd (apart (λ e. omega arith) q)
+is_nothing (in_italian h g) q = absurd (apart (λ e. omega arith) q)
 is_nothing (in_neither h g) q = (h, g)
 
 module _ (chosen italian : List ℕ) (c : SoundBook chosen) (i : SoundBook italian) (wanted : Code) where
   abbrev in_first : ℕ
-  in_first = (find wanted chosen).number
+  in_first = (number_found (find wanted chosen))
 
   abbrev in_second : ℕ
-  in_second = (find wanted italian).number
+  in_second = (number_found (find wanted italian))
 
   is_shown_law : {s : Shown} → shown_for wanted chosen italian ≡ s → by_numbers in_first in_second ≡ s
   is_shown_law q = sym (sound_shown wanted c i) ∙ q
@@ -178,20 +190,20 @@ found_exactly = finds
 -- ---- no other look-up ----
 
 module _ (look : LookUp) (first : CheckedFirst look) (exactly : FoundExactly look) (wanted : Code) (chosen italian : List ℕ) where
-  agrees : (c : SoundBook chosen) (i : SoundBook italian) {s : Shown} → Case (find wanted chosen).number (find wanted italian).number s → look wanted chosen italian ≡ s
+  agrees : (c : SoundBook chosen) (i : SoundBook italian) {s : Shown} → Case (number_found (find wanted chosen)) (number_found (find wanted italian)) s → look wanted chosen italian ≡ s
   agrees c i (in_chosen h) = ((exactly chosen italian c i wanted).from_chosen _).1 (found_has wanted c h)
   agrees c i (in_italian h g) = ((exactly chosen italian c i wanted).from_italian _).1 (none_has wanted c h, found_has wanted i g)
   agrees c i (in_neither h g) = (exactly chosen italian c i wanted).no_name.1 (none_has wanted c h, none_has wanted i g)
 
   by_checks : (v w : Checked) → checked chosen ≡ v → checked italian ≡ w → look wanted chosen italian ≡ shown_for wanted chosen italian
-  by_checks (checks.Refused number entry) w p q =
-      first.chosen_first chosen italian number entry p wanted ∙ sym (checked_first.chosen_first chosen italian number entry p wanted)
-  by_checks checks.Sound (checks.Refused number entry) p q =
-      first.italian_then chosen italian number entry p q wanted ∙ sym (checked_first.italian_then chosen italian number entry p q wanted)
-  by_checks checks.Sound checks.Sound p q =
+  by_checks (Err v) w p q =
+      first.chosen_first chosen italian v.fault v.entry p wanted ∙ sym (checked_first.chosen_first chosen italian v.fault v.entry p wanted)
+  by_checks (Ok v) (Err w) p q =
+      first.italian_then chosen italian w.fault w.entry p q wanted ∙ sym (checked_first.italian_then chosen italian w.fault w.entry p q wanted)
+  by_checks (Ok v) (Ok w) p q =
       let c = sound_only.said chosen p in
       let i = sound_only.said italian q in
-      agrees c i (case (find wanted chosen).number (find wanted italian).number) ∙ sym (sound_shown wanted c i)
+      agrees c i (case (number_found (find wanted chosen)) (number_found (find wanted italian))) ∙ sym (sound_shown wanted c i)
 
 pub only_look_up : OnlyLookUp
 only_look_up look first exactly wanted chosen italian = by_checks look first exactly wanted chosen italian (checked chosen) (checked italian) refl refl
@@ -199,7 +211,7 @@ only_look_up look first exactly wanted chosen italian = by_checks look first exa
 -- ---- names have no part in it ----
 
 number_by_codes : (wanted : Code) (number at at' : ℕ) (es es' : List (List ℕ)) → codes es ≡ codes es'
-    → (find_in wanted number at es).number ≡ (find_in wanted number at' es').number
+    → number_found (find_in wanted number at es) ≡ number_found (find_in wanted number at' es')
 unfolding find_in
 number_by_codes wanted number at at' [] [] q = refl
 number_by_codes wanted number at at' [] (e ∷ es) q = absurd (never cc)
@@ -208,11 +220,11 @@ number_by_codes wanted number at at' (e ∷ es) (e' ∷ es') q =
     let same : code_of e ≡ code_of e' = cc in
     let others : codes es ≡ codes es' = cc in
     rw same
-    (if_both (λ (p p' : Place). p.number ≡ p'.number) (same_code (code_of e') wanted) (λ f. refl)
+    (if_both (λ (p p' : Option Place). number_found p ≡ number_found p') (same_code (code_of e') wanted) (λ f. refl)
     (λ f. number_by_codes wanted (number + 1) (at + size_of e) (at' + size_of e') es es' others))
 
 same_find : (wanted : Code) {book book' : List ℕ} (b : SoundBook book) (b' : SoundBook book') → codes b.its ≡ codes b'.its
-    → (find wanted book).number ≡ (find wanted book').number
+    → number_found (find wanted book) ≡ number_found (find wanted book')
 unfolding find
 same_find wanted b b' q = rw (its_entries b, its_entries b') (number_by_codes wanted 1 1 1 b.its b'.its q)
 
@@ -313,24 +325,25 @@ as_told book k wanted {name = name} {own = own} n f back s a m = record {
   many_so = m ∙ ap length (sym n);
 }
 
-name_stands : (wanted : Code) (book : List ℕ) → checked book ≡ checks.Sound → 0 < (find wanted book).number
-    → let p = find wanted book in Stands book p.number wanted p.at p.many (name_in p.number book)
+name_stands : (wanted : Code) (book : List ℕ) → checked book ≡ checks.Sound → 0 < number_found (find wanted book)
+    → let p = find wanted book in Stands book (number_found p) wanted (at_found p) (many_found p) (name_in (number_found p) book)
 unfolding name_in
 name_stands wanted book q h =
     let p = find wanted book in
     let b = said_sound book q in
     let l = found_in wanted book h in
-    let right : Right (get_or (entries_of book) (p.number - 1) []) = b.ordered.right (p.number - 1) (omega (arith, l.from, l.to)) in
+    let right : Right (get_or (entries_of book) (number_found p - 1) []) = b.ordered.right (number_found p - 1) (omega (arith, l.from, l.to)) in
     let own : code_of (entry_at book l.start) ≡ wanted = ap code_of (sym l.entry_so) ∙ l.code_so in
     let s = entry_stands wanted book l.start (rw l.entry_so at right) own in
-    let front : take l.start book ≡ book_of (take (p.number - 1) (entries_of book)) = l.front_so ∙ ap (◌++ flatten (take (p.number - 1) (entries_of book))) (first_octet_law book b.version) in
-    as_told book p.number wanted (ap name_of l.entry_so) front s.back s.stands (l.at_so ∙ ap (◌+ 3) s.start_so) (l.many_so ∙ s.many_so)
+    let front : take l.start book ≡ book_of (take (number_found p - 1) (entries_of book)) = l.front_so ∙ ap (◌++ flatten (take (number_found p - 1) (entries_of book))) (first_octet_law book b.version) in
+    as_told book (number_found p) wanted (ap name_of l.entry_so) front s.back s.stands (l.at_so ∙ ap (◌+ 3) s.start_so) (l.many_so ∙ s.many_so)
 
 pub name_shown_law : NameShown
 unfolding name_shown name_of_shown name_in
 name_shown_law = record {
   in_its_book = λ wanted chosen italian.
-      by_shown (λ (l : LookedUp). InItsBook l.shown wanted l.at l.many (name_of_shown l.shown chosen italian) chosen italian) (λ book number entry n. (refl, refl, refl)) wanted chosen italian
-      (refl, refl, refl) (λ c h. (refl, name_stands wanted chosen c h)) (λ i h. (refl, name_stands wanted italian i h));
+      by_shown (λ (l : LookedUp). InItsBook l wanted (name_of_shown (shown_of l) chosen italian) chosen italian) (λ book why. refl) wanted chosen italian refl
+      (λ c p e. (refl, rw e at (name_stands wanted chosen c (found_numbered wanted _ e))))
+      (λ i p e. (refl, rw e at (name_stands wanted italian i (found_numbered wanted _ e))));
   cut_out = cut_is_name;
 }

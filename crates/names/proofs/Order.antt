@@ -10,12 +10,13 @@ use borrow.Author.Tests.{lt-ltb, le-ltb, ltb-true, ltb-false, eq-eqb, ne_eqb, eq
 use lib.Dec.{ltb, eqb}
 use lib.ListN.{length, get_or}
 use Rattle.octets.proofs.Choice.{either, flipped, not_both}
-use Rattle.octets.proofs.Outcome.{never}
+use Rattle.names.proofs.Entries.{some_none}
 use Rattle.names.specs.declared.Code.{Code}
-use Rattle.names.specs.declared.Checked.{Checked}
-use Rattle.names.specs.declared.Checked.TheVariants.{Sound}
+use Rattle.names.specs.declared.Fault.{Fault}
+use Rattle.names.specs.declared.Fault.TheVariants.{Cut, Name, Order}
+use Rattle.std.specs.Prelude.{Option, Some, None}
 use Rattle.names.specs.Codes.{rises_to}
-use Rattle.names.specs.Book.{code_of, length_of, size_of, in_order, fault_of, first_fault}
+use Rattle.names.specs.Book.{code_of, length_of, size_of, in_order, Sound, Refused, unless_faulty, fault_of, first_fault}
 use Rattle.names.specs.EventNames.{Rises, code_at, InOrder}
 
 -- ---- rising ----
@@ -51,12 +52,12 @@ pub record Fine (number : ℕ) (before : Code) (e : List ℕ) : Type 0 where
   pub order : in_order number before (code_of e) ≡ true
 
 module _ (number : ℕ) (before : Code) (e : List ℕ) where
-  -- the refusals and what each is for; 0 where there is none
-  pub data Verdict : ℕ → Type 0 where
-    cut : length e < size_of e → Verdict 2
-    unnamed : size_of e ≤ length e → (length_of e ≡ 0) ⊎ (40 < length_of e) → Verdict 3
-    unordered : size_of e ≤ length e → 1 ≤ length_of e → length_of e ≤ 40 → in_order number before (code_of e) ≡ false → Verdict 4
-    passes : Fine number before e → Verdict 0
+  -- the refusals and what each is for; or none
+  pub data Verdict : Option Fault → Type 0 where
+    cut : length e < size_of e → Verdict (Some Cut)
+    unnamed : size_of e ≤ length e → (length_of e ≡ 0) ⊎ (40 < length_of e) → Verdict (Some Name)
+    unordered : size_of e ≤ length e → 1 ≤ length_of e → length_of e ≤ 40 → in_order number before (code_of e) ≡ false → Verdict (Some Order)
+    passes : Fine number before e → Verdict None
 
   pub verdict : Verdict (fault_of number before e)
   unfolding fault_of
@@ -69,32 +70,39 @@ module _ (number : ℕ) (before : Code) (e : List ℕ) where
       (λ c. either Verdict (not (in_order number before (code_of e))) (λ d. unordered whole some (ltb-false _ _ c) (flipped _ _ d))
       (λ d. passes (record { whole = whole; some = some; most = ltb-false _ _ c; order = flipped _ _ d })))))
 
-  pub so_fine : Fine number before e → fault_of number before e ≡ 0
+  pub so_fine : Fine number before e → fault_of number before e ≡ None
   unfolding fault_of
   so_fine f = rw (le-ltb (length e) (size_of e) f.whole, ne_eqb (length_of e) 0 (λ z. omega (arith, f.some)), le-ltb 40 (length_of e) f.most, f.order)
 
-  fine_by : {n : ℕ} → Verdict n → n ≡ 0 → Fine number before e
-  fine_by (cut h) q = absurd (omega arith)
-  fine_by (unnamed h k) q = absurd (omega arith)
-  fine_by (unordered h k l o) q = absurd (omega arith)
+  fine_by : {fault : Option Fault} → Verdict fault → fault ≡ None → Fine number before e
+  fine_by (cut h) q = absurd (some_none q)
+  fine_by (unnamed h k) q = absurd (some_none q)
+  fine_by (unordered h k l o) q = absurd (some_none q)
   fine_by (passes f) q = f
 
-  pub fine : fault_of number before e ≡ 0 → Fine number before e
+  pub fine : fault_of number before e ≡ None → Fine number before e
   fine = fine_by verdict
 
 -- ---- entries ----
+
+-- a refusal is not sound
+pub not_sound : {fault : Fault} {entry : ℕ} → Refused fault entry ≡ Sound → ⊥
+not_sound e = cc
 
 -- entries that pass: the first is fine, and so are the others behind it
 module _ (number : ℕ) (before : Code) (e : List ℕ) (es : List (List ℕ)) where
   pub sound_first : first_fault number before (e ∷ es) ≡ Sound → Fine number before e × (first_fault (number + 1) (code_of e) es ≡ Sound)
   unfolding first_fault
-  sound_first =
-      either (λ (v : Checked). v ≡ Sound → Fine number before e × (first_fault (number + 1) (code_of e) es ≡ Sound)) (eqb (fault_of number before e) 0)
-      (λ f q. (fine number before e (eqb-true _ _ f), q)) (λ f q. absurd (never cc))
+  sound_first = by_fault (fault_of number before e) refl
+    where
+      by_fault : (fault : Option Fault) → fault_of number before e ≡ fault → unless_faulty fault number (first_fault (number + 1) (code_of e) es) ≡ Sound
+          → Fine number before e × (first_fault (number + 1) (code_of e) es ≡ Sound)
+      by_fault None f q = (fine number before e f, q)
+      by_fault (Some fault) f q = absurd (not_sound q)
 
   pub so_sound : Fine number before e → first_fault (number + 1) (code_of e) es ≡ Sound → first_fault number before (e ∷ es) ≡ Sound
   unfolding first_fault
-  so_sound f q = rw (eq-eqb _ 0 (so_fine number before e f)) q
+  so_sound f q = rw (so_fine number before e f) q
 
 -- behind another code the order is rising
 behind : (number : ℕ) (before own : Code) → 1 < number → in_order number before own ≡ true → Rises before own

@@ -14,9 +14,10 @@ use Rattle.octets.proofs.Choice.{either, not_both}
 use Rattle.octets.proofs.Outcome.{never}
 use Rattle.names.specs.declared.Code.{Code}
 use Rattle.names.specs.declared.Place.{Place}
+use Rattle.std.specs.Prelude.{Option, Some, None}
 use Rattle.names.specs.Codes.{code, same_code}
 use Rattle.names.specs.Book.{code_of, length_of, size_of, entries_of}
-use Rattle.names.specs.LookUp.{find_in, find, name_in}
+use Rattle.names.specs.LookUp.{find_in, find, number_found, name_in}
 use Rattle.names.specs.working.Pass.{entry_at, entries_from}
 use Rattle.names.proofs.Entries.{entries_end, entries_more, length_of_law, name_there}
 
@@ -56,14 +57,41 @@ through s at =
     let size : size_of (take (size_of (drop at s)) (drop at s)) ≡ size_of (drop at s) = ap (3 +◌) (get_or-take (size_of (drop at s)) (drop at s) 2 0 (omega arith)) in
     rw size (take-add at (size_of (drop at s)) s)
 
+-- where the name lies of an entry that is found, and with how many octets
+abbrev pub at_found : Option Place → ℕ
+at_found None = 0
+at_found (Some p) = p.at
+
+abbrev pub many_found : Option Place → ℕ
+many_found None = 0
+many_found (Some p) = p.many
+
+-- an entry's number is over 0
+abbrev pub Numbered : Option Place → Type 0
+Numbered None = Unit
+Numbered (Some p) = 0 < p.number
+
 module _ (wanted : Code) where
+  find_in_numbered : (number at : ℕ) (es : List (List ℕ)) → 0 < number → Numbered (find_in wanted number at es)
+  unfolding find_in
+  find_in_numbered number at [] h = tt
+  find_in_numbered number at (e ∷ es) h =
+      either Numbered (same_code (code_of e) wanted) (λ f. h) (λ f. find_in_numbered (number + 1) (at + size_of e) es (omega arith))
+
+  pub find_numbered : (book : List ℕ) → Numbered (find wanted book)
+  unfolding find
+  find_numbered book = find_in_numbered 1 1 (entries_of book) (omega arith)
+
+  pub found_numbered : (book : List ℕ) {p : Place} → find wanted book ≡ Some p → 0 < number_found (find wanted book)
+  found_numbered book e = rw e (rw e at (find_numbered book))
+
   -- nothing is found: no entry has the code
-  pub missed : (number at : ℕ) (es : List (List ℕ)) → 0 < number → (find_in wanted number at es).number ≡ 0
+  pub missed : (number at : ℕ) (es : List (List ℕ)) → 0 < number → number_found (find_in wanted number at es) ≡ 0
       → (n : ℕ) → n < length es → code_of (get_or es n []) ≡ wanted → ⊥
   unfolding find_in
   missed number at [] h = λ q n k c. omega arith
   missed number at (e ∷ es) h =
-      either (λ (p : Place). p.number ≡ 0 → (n : ℕ) → n < length (e ∷ es) → code_of (get_or (e ∷ es) n []) ≡ wanted → ⊥) (same_code (code_of e) wanted)
+      either (λ (p : Option Place). number_found p ≡ 0 → (n : ℕ) → n < length (e ∷ es) → code_of (get_or (e ∷ es) n []) ≡ wanted → ⊥) (same_code (code_of e) wanted)
       (λ f q n k c. omega arith)
       (λ f q. one_more f (missed (number + 1) (at + size_of e) es (omega arith) q))
     where
@@ -73,22 +101,22 @@ module _ (wanted : Code) where
       one_more f others (suc n) k c = others n (omega arith) c
 
   -- an entry is found among those that stand in octets from a place on: which of them, and where it stands
-  pub record Found (s : List ℕ) (number at : ℕ) (es : List (List ℕ)) (p : Place) : Type 0 where
-    pub from : number ≤ p.number
-    pub to : p.number < number + length es
-    pub code_so : code_of (get_or es (p.number - number) []) ≡ wanted
+  pub record Found (s : List ℕ) (number at : ℕ) (es : List (List ℕ)) (p : Option Place) : Type 0 where
+    pub from : number ≤ number_found p
+    pub to : number_found p < number + length es
+    pub code_so : code_of (get_or es (number_found p - number) []) ≡ wanted
     pub start : ℕ
-    pub front_so : take start s ≡ take at s ++ flatten (take (p.number - number) es)
-    pub entry_so : get_or es (p.number - number) [] ≡ entry_at s start
-    pub at_so : p.at ≡ start + 3
-    pub many_so : p.many ≡ length_of (entry_at s start)
+    pub front_so : take start s ≡ take at s ++ flatten (take (number_found p - number) es)
+    pub entry_so : get_or es (number_found p - number) [] ≡ entry_at s start
+    pub at_so : at_found p ≡ start + 3
+    pub many_so : many_found p ≡ length_of (entry_at s start)
 
-  found : (s : List ℕ) (number at : ℕ) (es : List (List ℕ)) → es ≡ entries_from s at → 0 < (find_in wanted number at es).number
+  found : (s : List ℕ) (number at : ℕ) (es : List (List ℕ)) → es ≡ entries_from s at → 0 < number_found (find_in wanted number at es)
       → Found s number at es (find_in wanted number at es)
   unfolding find_in flatten
   found s number at [] q = λ h. absurd (omega arith)
   found s number at (e ∷ es) q =
-      either (λ (p : Place). 0 < p.number → Found s number at (e ∷ es) p) (same_code (code_of e) wanted)
+      either (λ (p : Option Place). 0 < number_found p → Found s number at (e ∷ es) p) (same_code (code_of e) wanted)
       (λ f h.
       let zeroth : number - number ≡ 0 = omega arith in
       record {
@@ -104,8 +132,8 @@ module _ (wanted : Code) where
       (λ f h.
       let p = find_in wanted (number + 1) (at + size_of e) es in
       let l = found s (number + 1) (at + size_of e) es (first q).rest h in
-      let next : p.number - number ≡ suc (p.number - (number + 1)) = omega (arith, l.from) in
-      let others = flatten (take (p.number - (number + 1)) es) in
+      let next : number_found p - number ≡ suc (number_found p - (number + 1)) = omega (arith, l.from) in
+      let others = flatten (take (number_found p - (number + 1)) es) in
       let own : take (at + size_of e) s ≡ take at s ++ e = rw (first q).here (through s at) in
       record {
         from = omega (arith, l.from);
@@ -119,11 +147,11 @@ module _ (wanted : Code) where
       })
 
   -- in a book, with its name where it says
-  pub found_in : (book : List ℕ) → 0 < (find wanted book).number → Found book 1 1 (entries_of book) (find wanted book)
+  pub found_in : (book : List ℕ) → 0 < number_found (find wanted book) → Found book 1 1 (entries_of book) (find wanted book)
   unfolding find entries_of
   found_in book h = found book 1 1 (entries_of book) (unfold entries_from in refl) h
 
-  pub name_found : (book : List ℕ) → 0 < (find wanted book).number → let p = find wanted book in take p.many (drop p.at book) ≡ name_in p.number book
+  pub name_found : (book : List ℕ) → 0 < number_found (find wanted book) → let p = find wanted book in take (many_found p) (drop (at_found p) book) ≡ name_in (number_found p) book
   unfolding name_in
   name_found book h =
       let l = found_in book h in

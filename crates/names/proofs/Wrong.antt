@@ -4,16 +4,17 @@ use Prim.Native.Nat.{ℕ}
 use mathlib.Core.List.{List, [], ◌∷◌}
 use mathlib.Core.Path.{◌≡◌, refl, sym, ap, ◌∙◌}
 use native.Mathlib.Omega.{arith}
-use Rattle.octets.proofs.Outcome.{never}
-use Rattle.names.specs.declared.Checked.TheVariants.{Sound, Refused}
-use Rattle.names.specs.declared.Shown.TheVariants as shows
+use Rattle.names.specs.declared.Fault.TheVariants.{Version}
+use Rattle.names.specs.Book.{Sound, Refused}
+use Rattle.names.specs.LookUp as shows
 use Rattle.names.specs.Codes.{code, same_code, rises_to}
 use Rattle.names.specs.Book.{code_of, name_of, walk, entries, entries_of, in_order, fault_of, first_fault, checked}
 use Rattle.names.specs.LookUp.{find_in, find, unless_refused, from_either, looked_up, name_in}
 use Rattle.names.specs.EventNames.{LookUp, SoundBook, SoundOnly, shown_for, FoundExactly, codes, NamesKept}
 use Rattle.names.specs.Wrong.{lenient, strict, silent, exchanged, italian_first, same_name, entry_named, by_name}
 use Rattle.names.proofs.Books.{sound_only, its_entries}
-use Rattle.names.proofs.EventNames.{found_exactly, names_kept}
+use Rattle.names.proofs.Order.{not_sound}
+use Rattle.names.proofs.EventNames.{entry_shown, apart, found_exactly, names_kept}
 
 -- a book of one entry, 1/2, and of two, 1/2 and 3/1, each with a name of one octet
 abbrev one : ℕ → List ℕ
@@ -32,11 +33,11 @@ two_sound name other = sound_only.said (two name other) refl
 
 lenient_shut_out : SoundOnly lenient → ⊥
 unfolding lenient checked
-lenient_shut_out s = let e : checked [] ≡ Sound = sound_only.of_all [] (s.said [] refl) in never cc
+lenient_shut_out s = let e : checked [] ≡ Sound = sound_only.of_all [] (s.said [] refl) in not_sound e
 
 strict_shut_out : SoundOnly strict → ⊥
 unfolding strict
-strict_shut_out s = let e : Refused 1 0 ≡ Sound = s.of_all (one 65) (one_sound 65) in never cc
+strict_shut_out s = let e : Refused Version 0 ≡ Sound = s.of_all (one 65) (one_sound 65) in not_sound e
 
 -- in sound books a look-up that finds exactly shows what ours shows
 finds_as_ours : (look : LookUp) → FoundExactly look → {k : ℕ} → shown_for (code 1 2) (one 65) (one 66) ≡ shows.Chosen k → look (code 1 2) (one 65) (one 66) ≡ shows.Chosen k
@@ -51,11 +52,11 @@ ours = refl
 
 silent_shut_out : FoundExactly silent → ⊥
 unfolding silent
-silent_shut_out f = let e : shows.Nothing ≡ shows.Chosen 1 = finds_as_ours silent f ours in never cc
+silent_shut_out f = let e : shows.Nothing ≡ shows.Chosen 1 = finds_as_ours silent f ours in apart (λ e. omega arith) e
 
 italian_first_shut_out : FoundExactly italian_first → ⊥
 unfolding italian_first exchanged looked_up unless_refused from_either find find_in same_code checked first_fault fault_of in_order code_of entries_of entries walk
-italian_first_shut_out f = let e : shows.Italian 1 ≡ shows.Chosen 1 = finds_as_ours italian_first f ours in never cc
+italian_first_shut_out f = let e : shows.Italian 1 ≡ shows.Chosen 1 = finds_as_ours italian_first f ours in apart (λ e. omega arith) e
 
 -- both are let through by the statement on names alone
 silent_let_through : NamesKept silent
@@ -84,5 +85,5 @@ by_name_shut_out n =
     let i = two_sound 66 67 in
     let e : shows.Chosen 2 ≡ shows.Chosen 1 =
     sym before ∙ n (two 65 66) (two 65 68) (two 66 67) (two 66 67) (two_sound 65 66) (two_sound 65 68) i i same_codes refl (code 1 2) ∙ behind in
-    let f : ◌≡◌ {A = ℕ} 2 1 = cc in
+    let f : ◌≡◌ {A = ℕ} 2 1 = ap entry_shown e in
     omega arith

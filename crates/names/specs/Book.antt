@@ -1,12 +1,13 @@
 -- A book of names. Document 02, #103: "version 1, then entries of SPA, SPQ, name length in one octet and the name, 1 to 40 octets, rising by SPA and SPQ
 -- without equals"; "names its first faulty entry by number from 1, 0 for refusal 1. Refusals: book 1 empty or not version 1, 2 cut, 3 name empty or too
 -- long, 4 order; by place in the book, then by number". Any octets are a book, sound or refused. Assumes nothing.
-use Rattle.std.specs.Prelude.{ℕ, zero, suc, ◌+◌, Bool, true, not, List, [], ◌∷◌, ltb, eqb, length, get_or, take, drop}
+use Rattle.std.specs.Prelude.{ℕ, zero, suc, ◌+◌, Bool, true, not, List, [], ◌∷◌, ltb, eqb, length, get_or, take, drop, Option, Some, None, Result, Ok, Err}
 use Rattle.octets.specs.Choice.{when◌then◌else◌}
 use Rattle.octets.specs.First.{◌⇒◌▸◌, first_of◌else◌}
 use Rattle.names.specs.declared.Code.{Code}
-use Rattle.names.specs.declared.Checked.{Checked}
-use Rattle.names.specs.declared.Checked.TheVariants.{Sound, Refused}
+use Rattle.names.specs.declared.Fault.{Fault}
+use Rattle.names.specs.declared.Fault.TheVariants.{Version, Cut, Name, Order}
+use Rattle.names.specs.declared.BookFault.{BookFault}
 use Rattle.names.specs.Codes.{code, rises_to}
 
 -- an entry is its octets: SPA, SPQ, the name's length, the name; what is not there of the first three counts as 0
@@ -40,24 +41,45 @@ entries_of book = entries (drop 1 book)
 unfoldable pub in_order : ℕ → Code → Code → Bool
 in_order number before own = when eqb number 1 then true else rises_to before own
 
--- what is wrong with an entry, by the refusals' numbers; 0 where nothing is
-unfoldable pub fault_of : ℕ → Code → List ℕ → ℕ
+-- the refusals' numbers
+abbrev pub number_of : Fault → ℕ
+number_of Version = 1
+number_of Cut = 2
+number_of Name = 3
+number_of Order = 4
+
+-- what a check comes to: a refusal with the faulty entry's number, or none
+abbrev pub Checked : Type 0
+Checked = Result (Unit {0}) BookFault
+
+abbrev pub Sound : Checked
+Sound = Ok tt
+
+abbrev pub Refused : Fault → ℕ → Checked
+Refused fault entry = Err (record { fault = fault; entry = entry })
+
+-- what is wrong with an entry, if anything is
+unfoldable pub fault_of : ℕ → Code → List ℕ → Option Fault
 fault_of number before e =
     first_of
-    ltb (length e) (size_of e) ⇒ 2 ▸
-    eqb (length_of e) 0 ⇒ 3 ▸
-    ltb 40 (length_of e) ⇒ 3 ▸
-    not (in_order number before (code_of e)) ⇒ 4 ▸
+    ltb (length e) (size_of e) ⇒ Some Cut ▸
+    eqb (length_of e) 0 ⇒ Some Name ▸
+    ltb 40 (length_of e) ⇒ Some Name ▸
+    not (in_order number before (code_of e)) ⇒ Some Order ▸
     []
-    else 0
+    else None
+
+-- an entry of a number that is at fault is refused, whatever stands behind it
+abbrev pub unless_faulty : Option Fault → ℕ → Checked → Checked
+unless_faulty None number later = later
+unless_faulty (Some fault) number later = Refused fault number
 
 -- the first faulty one of entries, the first of which has a number and a code before it
 unfoldable pub first_fault : ℕ → Code → List (List ℕ) → Checked
 first_fault number before [] = Sound
 first_fault number before (e ∷ es) =
-    when eqb (fault_of number before e) 0 then first_fault (number + 1) (code_of e) es else
-    Refused (fault_of number before e) number
+    unless_faulty (fault_of number before e) number (first_fault (number + 1) (code_of e) es)
 
 -- an empty book has no version
 unfoldable pub checked : List ℕ → Checked
-checked book = when eqb (get_or book 0 0) 1 then first_fault 1 (code 0 0) (entries_of book) else Refused 1 0
+checked book = when eqb (get_or book 0 0) 1 then first_fault 1 (code 0 0) (entries_of book) else Refused Version 0

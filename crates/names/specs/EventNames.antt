@@ -1,14 +1,15 @@
 -- Document 02, #103, sentence by sentence, as statements over any check and any look-up, so that wrong ones can be shut out (`Wrong`). What a book is
 -- stands here a second time, without a walk over octets: entries laid one after the other. Assumes nothing.
-use Rattle.std.specs.Prelude.{ℕ, ◌+◌, ◌-◌, ◌≤◌, ◌<◌, ◌⊎◌, ◌≡◌, length, get_or, take}
+use Rattle.std.specs.Prelude.{ℕ, ◌+◌, ◌-◌, ◌≤◌, ◌<◌, ◌⊎◌, ◌≡◌, length, get_or, take, Some, None, Ok, Err}
 use mathlib.Core.List.{List, [], ◌∷◌, ◌++◌, flatten}
 use Rattle.names.specs.declared.Code.{Code}
-use Rattle.names.specs.declared.Checked.{Checked}
-use Rattle.names.specs.declared.Checked.TheVariants as checks
-use Rattle.names.specs.declared.Shown.{Shown}
-use Rattle.names.specs.declared.Shown.TheVariants.{Refused, Chosen, Italian, Nothing}
-use Rattle.names.specs.Book.{code_of, length_of, name_of, entries_of, checked}
-use Rattle.names.specs.LookUp.{looked_up, name_shown, cut_out}
+use Rattle.names.specs.declared.Fault.{Fault}
+use Rattle.names.specs.declared.Fault.TheVariants as faults
+use Rattle.names.specs.declared.Which.TheVariants as which
+use Rattle.names.specs.Book.{code_of, length_of, name_of, entries_of, Checked, checked}
+use Rattle.names.specs.Book as checks
+use Rattle.names.specs.LookUp.{LookedUp, Shown, Refused, Chosen, Italian, Nothing, shown_of, looked_up, name_shown, cut_out}
+use Rattle.names.specs.LookUp as looks
 
 -- "entries of SPA, SPQ, name length in one octet and the name, 1 to 40 octets"
 pub record Right (e : List ℕ) : Type 0 where
@@ -50,22 +51,22 @@ pub record SoundOnly (check : Check) : Type 0 where
   pub of_all : (book : List ℕ) → SoundBook book → check book ≡ checks.Sound
 
 -- "names its first faulty entry by number from 1": the entries before it are in order, and of refusals 2, 3 and 4 it deserves the first
-abbrev pub Deserves : ℕ → List (List ℕ) → List ℕ → Type 0
-Deserves number before e =
-    ((number ≡ 2) × (length e < 3 + length_of e))
-    ⊎ ((number ≡ 3) × (length e ≡ 3 + length_of e) × ((length_of e ≡ 0) ⊎ (40 < length_of e)))
-    ⊎ ((number ≡ 4) × Right e × (1 ≤ length before) × (Rises (code_at before (length before - 1)) (code_of e) → ⊥))
+abbrev pub Deserves : Fault → List (List ℕ) → List ℕ → Type 0
+Deserves fault before e =
+    ((fault ≡ faults.Cut) × (length e < 3 + length_of e))
+    ⊎ ((fault ≡ faults.Name) × (length e ≡ 3 + length_of e) × ((length_of e ≡ 0) ⊎ (40 < length_of e)))
+    ⊎ ((fault ≡ faults.Order) × Right e × (1 ≤ length before) × (Rises (code_at before (length before - 1)) (code_of e) → ⊥))
 
-pub record FirstFaulty (book : List ℕ) (number entry : ℕ) : Type 0 where
+pub record FirstFaulty (book : List ℕ) (fault : Fault) (entry : ℕ) : Type 0 where
   pub from_1 : 1 ≤ entry
   pub there : entry ≤ length (entries_of book)
   pub before_in_order : InOrder (take (entry - 1) (entries_of book))
-  pub deserved : Deserves number (take (entry - 1) (entries_of book)) (get_or (entries_of book) (entry - 1) [])
+  pub deserved : Deserves fault (take (entry - 1) (entries_of book)) (get_or (entries_of book) (entry - 1) [])
 
 -- "0 for refusal 1": an empty book or another version
 pub record FaultNamed (check : Check) : Type 0 where
-  pub version : (book : List ℕ) → (get_or book 0 0 ≡ 1 → ⊥) → check book ≡ checks.Refused 1 0
-  pub entry : (book : List ℕ) (number entry : ℕ) → get_or book 0 0 ≡ 1 → check book ≡ checks.Refused number entry → FirstFaulty book number entry
+  pub version : (book : List ℕ) → (get_or book 0 0 ≡ 1 → ⊥) → check book ≡ checks.Refused faults.Version 0
+  pub entry : (book : List ℕ) (fault : Fault) (entry : ℕ) → get_or book 0 0 ≡ 1 → check book ≡ checks.Refused fault entry → FirstFaulty book fault entry
 
 -- together these leave one check: whatever meets them says what ours says, of any octets
 abbrev pub OnlyCheck : Type 0
@@ -79,14 +80,14 @@ pub record AllThere : Type 0 where
 
 -- what ours shows
 abbrev pub shown_for : LookUp
-shown_for wanted chosen italian = (looked_up wanted chosen italian).shown
+shown_for wanted chosen italian = shown_of (looked_up wanted chosen italian)
 
 -- "a lookup checks the chosen book, then the Italian one", whatever the code
 pub record CheckedFirst (look : LookUp) : Type 0 where
-  pub chosen_first : (chosen italian : List ℕ) (number entry : ℕ) → checked chosen ≡ checks.Refused number entry
-      → (wanted : Code) → look wanted chosen italian ≡ Refused 1 number entry
-  pub italian_then : (chosen italian : List ℕ) (number entry : ℕ) → checked chosen ≡ checks.Sound → checked italian ≡ checks.Refused number entry
-      → (wanted : Code) → look wanted chosen italian ≡ Refused 2 number entry
+  pub chosen_first : (chosen italian : List ℕ) (fault : Fault) (entry : ℕ) → checked chosen ≡ checks.Refused fault entry
+      → (wanted : Code) → look wanted chosen italian ≡ Refused which.Chosen fault entry
+  pub italian_then : (chosen italian : List ℕ) (fault : Fault) (entry : ℕ) → checked chosen ≡ checks.Sound → checked italian ≡ checks.Refused fault entry
+      → (wanted : Code) → look wanted chosen italian ≡ Refused which.Italian fault entry
 
 -- the entry of a number, from 1, has a code
 abbrev pub Has : List (List ℕ) → Code → ℕ → Type 0
@@ -146,14 +147,14 @@ pub record Stands (book : List ℕ) (k : ℕ) (wanted : Code) (at many : ℕ) (n
   pub at_so : at ≡ length (book_of (take (k - 1) (entries_of book))) + 3
   pub many_so : many ≡ length name
 
--- of the book that is shown, at the place that is told; where there is no name, no octets and no place
-abbrev pub InItsBook : Shown → Code → ℕ → ℕ → List ℕ → List ℕ → List ℕ → Type 0
-InItsBook (Chosen k) wanted at many name chosen italian = (name ≡ name_of (get_or (entries_of chosen) (k - 1) [])) × Stands chosen k wanted at many name
-InItsBook (Italian k) wanted at many name chosen italian = (name ≡ name_of (get_or (entries_of italian) (k - 1) [])) × Stands italian k wanted at many name
-InItsBook (Refused book number entry) wanted at many name chosen italian = (name ≡ []) × (at ≡ 0) × (many ≡ 0)
-InItsBook Nothing wanted at many name chosen italian = (name ≡ []) × (at ≡ 0) × (many ≡ 0)
+-- of the book that is shown, at the place that is told; where there is no name, no octets
+abbrev pub InItsBook : LookedUp → Code → List ℕ → List ℕ → List ℕ → Type 0
+InItsBook (Ok (Some f)) wanted name chosen italian =
+    let book = looks.book_of f.book chosen italian in
+    (name ≡ name_of (get_or (entries_of book) (f.entry - 1) [])) × Stands book f.entry wanted f.at f.many name
+InItsBook (Ok None) wanted name chosen italian = name ≡ []
+InItsBook (Err r) wanted name chosen italian = name ≡ []
 
 pub record NameShown : Type 0 where
-  pub in_its_book : (wanted : Code) (chosen italian : List ℕ) → let l = looked_up wanted chosen italian in
-      InItsBook l.shown wanted l.at l.many (name_shown wanted chosen italian) chosen italian
+  pub in_its_book : (wanted : Code) (chosen italian : List ℕ) → InItsBook (looked_up wanted chosen italian) wanted (name_shown wanted chosen italian) chosen italian
   pub cut_out : (wanted : Code) (chosen italian : List ℕ) → cut_out (looked_up wanted chosen italian) chosen italian ≡ name_shown wanted chosen italian

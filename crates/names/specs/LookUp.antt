@@ -1,54 +1,93 @@
 -- What a look-up comes to. Document 02, #103: "Given a code pair, the handheld shows, without copying, the name from the chosen book, or from the Italian
 -- book if the chosen one has none"; "a lookup checks the chosen book, then the Italian one. A pair in neither book returns no name". Assumes nothing.
-use Rattle.std.specs.Prelude.{ℕ, ◌+◌, ◌-◌, List, [], ◌∷◌, ltb, get_or, take, drop}
+use Rattle.std.specs.Prelude.{ℕ, ◌+◌, ◌-◌, List, [], ◌∷◌, get_or, take, drop, Option, Some, None, Result, Ok, Err}
 use Rattle.octets.specs.Choice.{when◌then◌else◌}
 use Rattle.names.specs.declared.Code.{Code}
-use Rattle.names.specs.declared.Checked.{Checked}
-use Rattle.names.specs.declared.Checked.TheVariants as checks
+use Rattle.names.specs.declared.Fault.{Fault}
 use Rattle.names.specs.declared.Place.{Place}
-use Rattle.names.specs.declared.Shown.{Shown}
-use Rattle.names.specs.declared.Shown.TheVariants.{Refused, Chosen, Italian, Nothing}
-use Rattle.names.specs.declared.LookedUp.{LookedUp}
+use Rattle.names.specs.declared.Which.{Which}
+use Rattle.names.specs.declared.Which.TheVariants as which
+use Rattle.names.specs.declared.Found.{Found}
+use Rattle.names.specs.declared.Refusal.{Refusal}
 use Rattle.names.specs.Codes.{same_code}
-use Rattle.names.specs.Book.{code_of, length_of, size_of, name_of, entries_of, checked}
+use Rattle.names.specs.Book.{code_of, length_of, size_of, name_of, entries_of, Checked, checked}
 
--- an entry's number, and where its name lies, with how many octets; number 0 for none
+-- an entry's number, and where its name lies, with how many octets
 abbrev pub place : ℕ → ℕ → ℕ → Place
 place number at many = record { number = number; at = at; many = many }
 
-abbrev pub none : Place
-none = place 0 0 0
-
 -- the first of a code among entries that stand from a place on, the first of them with a number
-unfoldable pub find_in : Code → ℕ → ℕ → List (List ℕ) → Place
-find_in wanted number at [] = none
+unfoldable pub find_in : Code → ℕ → ℕ → List (List ℕ) → Option Place
+find_in wanted number at [] = None
 find_in wanted number at (e ∷ es) =
-    when same_code (code_of e) wanted then place number (at + 3) (length_of e) else
+    when same_code (code_of e) wanted then Some (place number (at + 3) (length_of e)) else
     find_in wanted (number + 1) (at + size_of e) es
 
 -- the entry of a code in a book: the first entry stands at 1, behind the version
-unfoldable pub find : Code → List ℕ → Place
+unfoldable pub find : Code → List ℕ → Option Place
 find wanted book = find_in wanted 1 1 (entries_of book)
 
-abbrev pub showing : Shown → ℕ → ℕ → LookedUp
-showing shown at many = record { shown = shown; at = at; many = many }
+-- its number; 0 where there is none
+abbrev pub number_found : Option Place → ℕ
+number_found None = 0
+number_found (Some p) = p.number
+
+-- what a look-up comes to: a book is refused, a name is found, or neither book has one
+abbrev pub LookedUp : Type 0
+LookedUp = Result (Option Found) Refusal
+
+-- what a book that is not refused has
+abbrev pub found : Which → Option Place → Option Found
+found book None = None
+found book (Some p) = Some (record { book = book; entry = p.number; at = p.at; many = p.many })
 
 -- a book that is refused ends the look-up
-unfoldable pub unless_refused : ℕ → Checked → LookedUp → LookedUp
-unless_refused book checks.Sound else-shown = else-shown
-unless_refused book (checks.Refused number entry) else-shown = showing (Refused book number entry) 0 0
+unfoldable pub unless_refused : Which → Checked → LookedUp → LookedUp
+unless_refused book (Ok sound) else-shown = else-shown
+unless_refused book (Err why) else-shown = Err (record { book = book; why = why })
+
+-- of one book
+unfoldable pub found_in : Which → Code → List ℕ → LookedUp
+found_in which wanted book = unless_refused which (checked book) (Ok (found which (find wanted book)))
 
 -- the name from the chosen book, or from the Italian one if the chosen one has none
-unfoldable pub from_either : Place → Place → LookedUp
-from_either chosen italian =
-    when ltb 0 chosen.number then showing (Chosen chosen.number) chosen.at chosen.many else
-    when ltb 0 italian.number then showing (Italian italian.number) italian.at italian.many else
-    showing Nothing 0 0
+unfoldable pub from_either : Option Place → Option Place → LookedUp
+from_either (Some p) italian = Ok (found which.Chosen (Some p))
+from_either None italian = Ok (found which.Italian italian)
 
--- book 1 is the chosen one, book 2 the Italian one
 unfoldable pub looked_up : Code → List ℕ → List ℕ → LookedUp
 looked_up wanted chosen italian =
-    unless_refused 1 (checked chosen) (unless_refused 2 (checked italian) (from_either (find wanted chosen) (find wanted italian)))
+    unless_refused which.Chosen (checked chosen) (unless_refused which.Italian (checked italian) (from_either (find wanted chosen) (find wanted italian)))
+
+-- which book and which entry is shown, or that a book is refused, or that there is no name
+pub record Named : Type 0 where
+  pub book : Which
+  pub entry : ℕ
+
+abbrev pub Shown : Type 0
+Shown = Result (Option Named) Refusal
+
+abbrev pub Refused : Which → Fault → ℕ → Shown
+Refused book fault entry = Err (record { book = book; why = record { fault = fault; entry = entry } })
+
+abbrev pub Chosen : ℕ → Shown
+Chosen entry = Ok (Some (record { book = which.Chosen; entry = entry }))
+
+abbrev pub Italian : ℕ → Shown
+Italian entry = Ok (Some (record { book = which.Italian; entry = entry }))
+
+abbrev pub Nothing : Shown
+Nothing = Ok None
+
+abbrev pub shown_of : LookedUp → Shown
+shown_of (Ok (Some f)) = Ok (Some (record { book = f.book; entry = f.entry }))
+shown_of (Ok None) = Nothing
+shown_of (Err r) = Err r
+
+-- one of the two books
+abbrev pub book_of : Which → List ℕ → List ℕ → List ℕ
+book_of which.Chosen chosen italian = chosen
+book_of which.Italian chosen italian = italian
 
 -- the name of the entry of a number
 unfoldable pub name_in : ℕ → List ℕ → List ℕ
@@ -56,20 +95,18 @@ name_in number book = name_of (get_or (entries_of book) (number - 1) [])
 
 -- the name that is shown; no name is the empty one
 unfoldable pub name_of_shown : Shown → List ℕ → List ℕ → List ℕ
-name_of_shown (Chosen number) chosen italian = name_in number chosen
-name_of_shown (Italian number) chosen italian = name_in number italian
-name_of_shown (Refused book number entry) chosen italian = []
-name_of_shown Nothing chosen italian = []
+name_of_shown (Ok (Some n)) chosen italian = name_in n.entry (book_of n.book chosen italian)
+name_of_shown (Ok None) chosen italian = []
+name_of_shown (Err r) chosen italian = []
 
 unfoldable pub name_shown : Code → List ℕ → List ℕ → List ℕ
-name_shown wanted chosen italian = name_of_shown (looked_up wanted chosen italian).shown chosen italian
+name_shown wanted chosen italian = name_of_shown (shown_of (looked_up wanted chosen italian)) chosen italian
 
--- the octets that lie where a look-up says, of any two books
-unfoldable pub cut_from : Shown → ℕ → ℕ → List ℕ → List ℕ → List ℕ
-cut_from (Chosen number) at many chosen italian = take many (drop at chosen)
-cut_from (Italian number) at many chosen italian = take many (drop at italian)
-cut_from (Refused book number entry) at many chosen italian = []
-cut_from Nothing at many chosen italian = []
+-- the octets that lie where a name is found, of any two books
+unfoldable pub cut_from : Found → List ℕ → List ℕ → List ℕ
+cut_from f chosen italian = take f.many (drop f.at (book_of f.book chosen italian))
 
 unfoldable pub cut_out : LookedUp → List ℕ → List ℕ → List ℕ
-cut_out l chosen italian = cut_from l.shown l.at l.many chosen italian
+cut_out (Ok (Some f)) chosen italian = cut_from f chosen italian
+cut_out (Ok None) chosen italian = []
+cut_out (Err r) chosen italian = []

@@ -1,12 +1,13 @@
 -- Wrong checks and look-ups, each shut out by a statement of `EventNames` and let through by another: why each of them is needed.
 -- Assumes nothing.
-use Rattle.std.specs.Prelude.{ℕ, ◌+◌, Bool, true, false, ◌&&◌, List, [], ◌∷◌, ltb, eqb}
+use Rattle.std.specs.Prelude.{ℕ, ◌+◌, Bool, true, false, ◌&&◌, List, [], ◌∷◌, ltb, eqb, Some, None, Ok, Err}
 use Rattle.octets.specs.Choice.{when◌then◌else◌}
-use Rattle.names.specs.declared.Checked.TheVariants as checks
-use Rattle.names.specs.declared.Shown.{Shown}
-use Rattle.names.specs.declared.Shown.TheVariants.{Refused, Chosen, Italian, Nothing}
+use Rattle.names.specs.declared.Fault.TheVariants.{Version}
+use Rattle.names.specs.declared.Which.{Which}
+use Rattle.names.specs.declared.Which.TheVariants as which
+use Rattle.names.specs.Book as checks
 use Rattle.names.specs.Book.{name_of, entries_of}
-use Rattle.names.specs.LookUp.{find, name_in}
+use Rattle.names.specs.LookUp.{Shown, Chosen, Nothing, find, number_found, name_in}
 use Rattle.names.specs.EventNames.{Check, LookUp, shown_for}
 
 -- every book is sound; none is
@@ -14,18 +15,21 @@ unfoldable pub lenient : Check
 lenient book = checks.Sound
 
 unfoldable pub strict : Check
-strict book = checks.Refused 1 0
+strict book = checks.Refused Version 0
 
 -- it never has a name: no change of names alters that
 unfoldable pub silent : LookUp
 silent wanted chosen italian = Nothing
 
 -- the Italian book first: no change of names alters that either
+abbrev pub other : Which → Which
+other which.Chosen = which.Italian
+other which.Italian = which.Chosen
+
 unfoldable pub exchanged : Shown → Shown
-exchanged (Chosen entry) = Italian entry
-exchanged (Italian entry) = Chosen entry
-exchanged (Refused book number entry) = Refused book number entry
-exchanged Nothing = Nothing
+exchanged (Ok (Some n)) = Ok (Some (record { book = other n.book; entry = n.entry }))
+exchanged (Ok None) = Ok None
+exchanged (Err r) = Err r
 
 unfoldable pub italian_first : LookUp
 italian_first wanted chosen italian = exchanged (shown_for wanted italian chosen)
@@ -43,6 +47,6 @@ entry_named name number (e ∷ es) = when same_name (name_of e) name then number
 
 unfoldable pub by_name : LookUp
 by_name wanted chosen italian =
-    when ltb 0 (entry_named (name_in (find wanted italian).number italian) 1 (entries_of chosen)) then
-    Chosen (entry_named (name_in (find wanted italian).number italian) 1 (entries_of chosen)) else
+    when ltb 0 (entry_named (name_in (number_found (find wanted italian)) italian) 1 (entries_of chosen)) then
+    Chosen (entry_named (name_in (number_found (find wanted italian)) italian) 1 (entries_of chosen)) else
     shown_for wanted chosen italian

@@ -1,45 +1,59 @@
 #![tactic(auto)]
 // Books of event names for the handheld: a book is checked, and the name of an event's code is handed back as a part of one of two lent books.
 ghost use Rattle.std.specs.Prelude.{◌≡◌, ◌+◌, ◌≤◌, length};
-ghost use Rattle.octets.specs.Choice.{when◌then◌else◌};
-ghost use Rattle.names.specs.Codes.{code_of_event, same_code};
-ghost use Rattle.names.specs.Book.{code_of, in_order, fault_of, checked};
-ghost use Rattle.names.specs.LookUp.{none, looked_up, name_shown, cut_out};
-ghost use Rattle.names.specs.working.Pass.{entry_at, kept, passed};
+ghost use Rattle.names.specs.Codes.{code_of_event};
+ghost use Rattle.names.specs.Book.{number_of, code_of, in_order, fault_of, checked};
+ghost use Rattle.names.specs.LookUp.{found_in, looked_up, name_shown, cut_from};
+ghost use Rattle.names.specs.working.Pass.{entry_at, passed};
 
-// The code of an event: SPA and SPQ, the qualifier of seven bits.
-#[derive(Clone, Copy)]
+// The code of an event: SPA and SPQ, the qualifier of seven bits. Codes are ordered by SPA, and with the same SPA by SPQ.
+#[derive(Clone, Copy, PartialEq, Eq, PartialOrd, Ord)]
 pub struct Code {
     pub spa: u8,
     pub spq: u8,
 }
 
-// What checking a book comes to: the refusal's number and the first faulty entry's, from 1; entry 0 with refusal 1.
-#[derive(Clone, Copy)]
-pub enum Checked {
-    Sound,
-    Refused(u8, usize),
+// What is wrong with a book: it is empty or of another version; or what is wrong with an entry: it is cut, its name is empty or too long, its
+// code does not rise. The numbers are the refusals'.
+#[derive(Clone, Copy, PartialEq, Eq)]
+pub enum Fault {
+    Version = 1,
+    Cut = 2,
+    Name = 3,
+    Order = 4,
 }
 
-// What is shown: nothing, since a book is refused, the chosen one (1) or the Italian one (2), with the refusal's number and the faulty entry's;
-// the name of an entry of the chosen book, or of the Italian one; no name.
-#[derive(Clone, Copy)]
-pub enum Shown {
-    Refused(u8, u8, usize),
-    Chosen(usize),
-    Italian(usize),
-    Nothing,
+// Why a book is refused: the fault, and the first faulty entry's number, from 1; entry 0 where the version is at fault.
+#[derive(Clone, Copy, PartialEq, Eq)]
+pub struct BookFault {
+    pub fault: Fault,
+    pub entry: usize,
 }
 
-// What a look-up comes to: what is shown, and where its name lies in its book, with how many octets.
-#[derive(Clone, Copy)]
-pub struct LookedUp {
-    pub shown: Shown,
+// Which of the two books, by the papers' numbers.
+#[derive(Clone, Copy, PartialEq, Eq)]
+pub enum Which {
+    Chosen = 1,
+    Italian = 2,
+}
+
+// Why a look-up is refused: the book, and what is wrong with it.
+#[derive(Clone, Copy, PartialEq, Eq)]
+pub struct Refusal {
+    pub book: Which,
+    pub why: BookFault,
+}
+
+// A name that is found: the book and the entry, and where the name lies in the book, with how many octets.
+#[derive(Clone, Copy, PartialEq, Eq)]
+pub struct Found {
+    pub book: Which,
+    pub entry: usize,
     pub at: usize,
     pub many: usize,
 }
 
-// An entry's number, and where its name lies, with how many octets; number 0 for none.
+// An entry's number, and where its name lies, with how many octets.
 #[derive(Clone, Copy)]
 struct Place {
     number: usize,
@@ -47,15 +61,21 @@ struct Place {
     many: usize,
 }
 
-// What the pass over a book comes to.
-#[derive(Clone, Copy)]
-enum Passed {
-    Refused(u8, usize),
-    Read(Place),
+// The longest name.
+const LONGEST: usize = 40;
+
+impl Fault {
+    // The refusal's number.
+    pub fn number(self) -> u8
+        ensures { result ≡ number_of self }
+    {
+        self as u8
+    }
 }
 
 impl Code {
     // The code of an event's two octets: of the second, SPQ is the upper seven bits, and SPI the lowest.
+    #[tactic(auto, unfolding(crate::specs::Codes::code_of_event))]
     pub fn of_event(spa: u8, octet: u8) -> Code
         ensures { result ≡ code_of_event spa octet }
     {
@@ -65,29 +85,11 @@ impl Code {
         }
     }
 
-    fn is(self, other: Code) -> bool
-        ensures { result ≡ same_code self other }
-    {
-        if self.spa == other.spa {
-            return self.spq == other.spq;
-        }
-        false
-    }
-
     // Whether it may stand in the entry of a number, behind the code of the entry before.
     fn is_in_order(self, number: usize, before: Code) -> bool
         ensures { result ≡ in_order number before self }
     {
-        if number == 1 {
-            return true;
-        }
-        if before.spa < self.spa {
-            return true;
-        }
-        if before.spa == self.spa {
-            return before.spq < self.spq;
-        }
-        false
+        number == 1 || before < self
     }
 }
 
@@ -101,148 +103,104 @@ fn code_at(book: &[u8], at: usize) -> Code
     }
 }
 
-// What is wrong with the entry at a place, by its number and the code of the entry before; 0 where nothing is.
-fn fault_at(book: &[u8], at: usize, number: usize, before: Code) -> u8
+// What is wrong with the entry at a place, by its number and the code of the entry before.
+fn fault_at(book: &[u8], at: usize, number: usize, before: Code) -> Option<Fault>
     requires { at ≤ length book.now }
     ensures { result ≡ fault_of number before (entry_at book.now at) }
 {
     if book.len() - at < 3 {
-        return 2;
+        return Some(Fault::Cut);
     }
     let many = book[at + 2] as usize;
     if book.len() - at - 3 < many {
-        return 2;
+        return Some(Fault::Cut);
     }
-    if many == 0 {
-        return 3;
-    }
-    if 40 < many {
-        return 3;
+    if many == 0 || LONGEST < many {
+        return Some(Fault::Name);
     }
     if code_at(book, at).is_in_order(number, before) {
-        return 0;
-    }
-    4
-}
-
-// What was found before stays.
-fn keep(found: Place, here: bool, new: Place) -> Place
-    ensures { result ≡ kept found (when here then new else none) }
-{
-    if 0 < found.number {
-        return found;
-    }
-    if here {
-        return new;
-    }
-    Place {
-        number: 0,
-        at: 0,
-        many: 0,
+        None
+    } else {
+        Some(Fault::Order)
     }
 }
 
 // The one pass over a book: it checks every entry, and keeps the place of the code's.
-fn pass(book: &[u8], wanted: Code) -> Passed
+fn pass(book: &[u8], wanted: Code) -> Result<Option<Place>, BookFault>
     ensures { result ≡ passed wanted book.now }
 {
     if octets::octet_at(book, 0) != 1 {
-        return Passed::Refused(1, 0);
+        return Err(BookFault {
+            fault: Fault::Version,
+            entry: 0,
+        });
     }
     let mut at = 1;
     let mut number = 1;
     let mut before = Code { spa: 0, spq: 0 };
-    let mut found = Place {
-        number: 0,
-        at: 0,
-        many: 0,
-    };
+    let mut found = None;
     while at < book.len() {
-        let fault = fault_at(book, at, number, before);
-        if fault != 0 {
-            return Passed::Refused(fault, number);
+        if let Some(fault) = fault_at(book, at, number, before) {
+            return Err(BookFault {
+                fault,
+                entry: number,
+            });
         }
         let code = code_at(book, at);
         let many = book[at + 2] as usize;
-        found = keep(
-            found,
-            code.is(wanted),
-            Place {
-                number,
-                at: at + 3,
-                many,
-            },
-        );
+        let place = Place {
+            number,
+            at: at + 3,
+            many,
+        };
+        found = found.or((code == wanted).then_some(place));
         before = code;
         at += 3 + many;
         number += 1;
     }
-    Passed::Read(found)
+    Ok(found)
 }
 
 // Checks a book.
-pub fn check(book: &[u8]) -> Checked
+pub fn check(book: &[u8]) -> Result<(), BookFault>
     ensures { result ≡ checked book.now }
 {
-    match pass(book, Code { spa: 0, spq: 0 }) {
-        Passed::Refused(number, entry) => Checked::Refused(number, entry),
-        Passed::Read(_) => Checked::Sound,
+    pass(book, Code { spa: 0, spq: 0 })?;
+    Ok(())
+}
+
+// What a book that is checked has of a code.
+fn found_in(which: Which, book: &[u8], code: Code) -> Result<Option<Found>, Refusal>
+    ensures { result ≡ found_in which code book.now }
+{
+    match pass(book, code) {
+        Ok(Some(place)) => Ok(Some(Found {
+            book: which,
+            entry: place.number,
+            at: place.at,
+            many: place.many,
+        })),
+        Ok(None) => Ok(None),
+        Err(why) => Err(Refusal { book: which, why }),
     }
 }
 
 // Looks a code up: the chosen book is checked, then the Italian one; then which of them has the name, in which entry, and where it lies.
-pub fn look_up(chosen: &[u8], italian: &[u8], code: Code) -> LookedUp
+pub fn look_up(chosen: &[u8], italian: &[u8], code: Code) -> Result<Option<Found>, Refusal>
     ensures { result ≡ looked_up code chosen.now italian.now }
 {
-    match pass(chosen, code) {
-        Passed::Refused(number, entry) => LookedUp {
-            shown: Shown::Refused(1, number, entry),
-            at: 0,
-            many: 0,
-        },
-        Passed::Read(first) => match pass(italian, code) {
-            Passed::Refused(number, entry) => LookedUp {
-                shown: Shown::Refused(2, number, entry),
-                at: 0,
-                many: 0,
-            },
-            Passed::Read(second) => {
-                if 0 < first.number {
-                    return LookedUp {
-                        shown: Shown::Chosen(first.number),
-                        at: first.at,
-                        many: first.many,
-                    };
-                }
-                if 0 < second.number {
-                    return LookedUp {
-                        shown: Shown::Italian(second.number),
-                        at: second.at,
-                        many: second.many,
-                    };
-                }
-                LookedUp {
-                    shown: Shown::Nothing,
-                    at: 0,
-                    many: 0,
-                }
-            }
-        },
-    }
+    let first = found_in(Which::Chosen, chosen, code)?;
+    let second = found_in(Which::Italian, italian, code)?;
+    Ok(first.or(second))
 }
 
-// The name that a look-up in these two books has found, cut out of its book without another pass; empty where there is none.
-pub fn name_at<'a>(chosen: &'a [u8], italian: &'a [u8], looked_up: LookedUp) -> &'a [u8]
-    ensures { result.now ≡ cut_out looked_up chosen.now italian.now }
+// The name that a look-up in these two books has found, cut out of its book without another pass.
+pub fn name_at<'a>(chosen: &'a [u8], italian: &'a [u8], found: Found) -> &'a [u8]
+    ensures { result.now ≡ cut_from found chosen.now italian.now }
 {
-    let shown = looked_up.shown;
-    let at = looked_up.at;
-    let many = looked_up.many;
-    match shown {
-        Shown::Chosen(_) => octets::part(chosen, at, many),
-        Shown::Italian(_) => octets::part(italian, at, many),
-        Shown::Refused(_, _, _) => octets::part(chosen, 0, 0),
-        Shown::Nothing => octets::part(chosen, 0, 0),
+    match found.book {
+        Which::Chosen => octets::part(chosen, found.at, found.many),
+        Which::Italian => octets::part(italian, found.at, found.many),
     }
 }
 
@@ -250,5 +208,9 @@ pub fn name_at<'a>(chosen: &'a [u8], italian: &'a [u8], looked_up: LookedUp) -> 
 pub fn name<'a>(chosen: &'a [u8], italian: &'a [u8], code: Code) -> &'a [u8]
     ensures { result.now ≡ name_shown code chosen.now italian.now }
 {
-    name_at(chosen, italian, look_up(chosen, italian, code))
+    match look_up(chosen, italian, code) {
+        Ok(Some(found)) => name_at(chosen, italian, found),
+        Ok(None) => b"",
+        Err(_) => b"",
+    }
 }

@@ -1,4 +1,3 @@
 pub mod Filling
-pub mod Adding
 mod Determined
 mod RuledOut

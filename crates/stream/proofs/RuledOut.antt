@@ -15,11 +15,11 @@ use Rattle.octets.proofs.Outcome.{RuledOut, RuledOutWith, Place, lent, lent_mut}
 use Rattle.stream.specs.declared.Window.{Window}
 use Rattle.stream.specs.declared.Texts.{Texts}
 use Rattle.stream.specs.Window.{count_of, seen_in, has_in}
-use Rattle.stream.proofs.seen.Reads as seen
-use Rattle.stream.proofs.taken.Reads as taken
-use Rattle.stream.proofs.filled.Reads as filled
-use Rattle.stream.proofs.out.Reads as out
-use Rattle.stream.proofs.tell.Reads as tell
+use Rattle.stream.proofs.Window.seen.Reads as seen
+use Rattle.stream.proofs.Window.taken.Reads as taken
+use Rattle.stream.proofs.Window.filled.Reads as filled
+use Rattle.stream.proofs.Texts.out.Reads as out
+use Rattle.stream.proofs.Texts.tell.Reads as tell
 
 abbrev waiting : ℕ → Bool → Texts
 waiting count going = record { count = count; going = going }
@@ -44,102 +44,102 @@ module _ (κs : Lfts 0) (w : Window) (many : ℕ) where
 -- x, y: where the octets lie
 module _ (κs : Lfts 1) (x y : Place) (a b c : ℕ) where
   -- the octets from the start of the space, whenever they differ from those in the window
-  seen_start : (a ≡ b → ⊥) → RuledOut (seen.Post κs) (lent x (a ∷ b ∷ c ∷ []), (window 1 2, tt)) (lent y (a ∷ []))
+  seen_start : (a ≡ b → ⊥) → RuledOut (seen.Post κs) (window 1 2, (lent x (a ∷ b ∷ c ∷ []), tt)) (lent y (a ∷ []))
   seen_start n s p = n (cc)
 
   -- the octets behind the window, whenever they differ from those in it
-  seen_end : (b ≡ c → ⊥) → RuledOut (seen.Post κs) (lent x (a ∷ b ∷ c ∷ []), (window 1 2, tt)) (lent y (c ∷ []))
+  seen_end : (b ≡ c → ⊥) → RuledOut (seen.Post κs) (window 1 2, (lent x (a ∷ b ∷ c ∷ []), tt)) (lent y (c ∷ []))
   seen_end n s p = n (cc)
 
   module _ (input : Stdin) (size : ℕ) where
     -- what has not been taken read over, whenever another octet comes in
     filled_over : (a ≡ b → ⊥)
-        → RuledOutWith (λ s. s.1.0.now) (filled.Post κs) (input, (lent_mut x (a ∷ c ∷ []), (window 0 1, (size, tt)))) (window 0 2) (b ∷ c ∷ [])
+        → RuledOutWith (λ s. s.1.1.0.now) (filled.Post κs) (window 0 1, (input, (lent_mut x (a ∷ c ∷ []), (size, tt)))) (window 0 2) (b ∷ c ∷ [])
     filled_over n s e p = n (cc)
 
     -- the first octet moved to every place, whenever the second differs
     filled_first : (b ≡ c → ⊥)
-        → RuledOutWith (λ s. s.1.0.now) (filled.Post κs) (input, (lent_mut x (a ∷ b ∷ c ∷ []), (window 1 3, (size, tt)))) (window 0 2) (b ∷ b ∷ c ∷ [])
+        → RuledOutWith (λ s. s.1.1.0.now) (filled.Post κs) (window 1 3, (input, (lent_mut x (a ∷ b ∷ c ∷ []), (size, tt)))) (window 0 2) (b ∷ b ∷ c ∷ [])
     filled_first n s e p = n (cc)
 
     -- a new window at the front with the octets not moved there, whenever they differ
     filled_unmoved : (a ≡ b → ⊥)
-        → RuledOutWith (λ s. s.1.0.now) (filled.Post κs) (input, (lent_mut x (a ∷ b ∷ c ∷ []), (window 1 3, (size, tt)))) (window 0 2) (a ∷ b ∷ c ∷ [])
+        → RuledOutWith (λ s. s.1.1.0.now) (filled.Post κs) (window 1 3, (input, (lent_mut x (a ∷ b ∷ c ∷ []), (size, tt)))) (window 0 2) (a ∷ b ∷ c ∷ [])
     filled_unmoved n s e p = n (cc)
 
 module _ (κs : Lfts 1) (input : Stdin) (x : Place) (space : List ℕ) (w r : Window) (size : ℕ) where
   -- what has not been taken left out: a window with fewer octets, whatever is read
-  filled_lost : count_of r < length (seen_in space w) → RuledOut (filled.Post κs) (input, (lent_mut x space, (w, (size, tt)))) r
+  filled_lost : count_of r < length (seen_in space w) → RuledOut (filled.Post κs) (w, (input, (lent_mut x space, (size, tt)))) r
   filled_lost fewer s p =
-      omega (arith, ap length p.first, length-take (length (seen_in space w)) (seen_in s.1.0.now r), length-take (count_of r) (drop r.from s.1.0.now))
+      omega (arith, ap length p.first, length-take (length (seen_in space w)) (seen_in s.1.1.0.now r), length-take (count_of r) (drop r.from s.1.1.0.now))
 
   -- a window that reaches past the space
-  filled_past : length space < r.to → RuledOut (filled.Post κs) (input, (lent_mut x space, (w, (size, tt)))) r
+  filled_past : length space < r.to → RuledOut (filled.Post κs) (w, (input, (lent_mut x space, (size, tt)))) r
   filled_past past s p = omega arith
 
   -- a space of another length
   filled_length : (left : List ℕ) → (length left ≡ length space → ⊥)
-      → RuledOutWith (λ s. s.1.0.now) (filled.Post κs) (input, (lent_mut x space, (w, (size, tt)))) r left
+      → RuledOutWith (λ s. s.1.1.0.now) (filled.Post κs) (w, (input, (lent_mut x space, (size, tt)))) r left
   filled_length left n s e p = n (cc)
 
   -- a window that ends before it begins
-  filled_order : r.to < r.from → RuledOut (filled.Post κs) (input, (lent_mut x space, (w, (size, tt)))) r
+  filled_order : r.to < r.from → RuledOut (filled.Post κs) (w, (input, (lent_mut x space, (size, tt)))) r
   filled_order before s p = omega arith
 
   -- as many octets as are asked for stand in the window already
   module _ (enough : has_in space w size ≡ true) where
     -- another window where so many octets stand there already: moved to the front, or with more read behind it
-    filled_again : (r ≡ w → ⊥) → RuledOut (filled.Post κs) (input, (lent_mut x space, (w, (size, tt)))) r
+    filled_again : (r ≡ w → ⊥) → RuledOut (filled.Post κs) (w, (input, (lent_mut x space, (size, tt)))) r
     filled_again other s p = other (p.same_window enough)
 
     -- an octet of the space changed where so many stand there already
     filled_changed : (left : List ℕ) → (left ≡ space → ⊥)
-        → RuledOutWith (λ s. s.1.0.now) (filled.Post κs) (input, (lent_mut x space, (w, (size, tt)))) r left
+        → RuledOutWith (λ s. s.1.1.0.now) (filled.Post κs) (w, (input, (lent_mut x space, (size, tt)))) r left
     filled_changed left other s e p = other (sym e ∙ p.unchanged enough)
 
 -- what waits, written
 module _ (κs : Lfts 1) (output : Stdout) (x : Place) (block : List ℕ) (texts : Texts) (going : Bool) where
   -- what waited still waiting
-  out_waiting : 0 < texts.count → RuledOut (out.Post κs) (output, (lent x block, (texts, tt))) (waiting texts.count going)
+  out_waiting : 0 < texts.count → RuledOut (out.Post κs) (texts, (output, (lent x block, tt))) (waiting texts.count going)
   out_waiting some s p = omega (arith, p.none_waits)
 
   -- one octet still waiting
-  out_one : RuledOut (out.Post κs) (output, (lent x block, (texts, tt))) (waiting 1 going)
+  out_one : RuledOut (out.Post κs) (texts, (output, (lent x block, tt))) (waiting 1 going)
   out_one s p = omega (arith, p.none_waits)
 
   -- what has stopped going on
-  out_resumed : texts.going ≡ false → RuledOut (out.Post κs) (output, (lent x block, (texts, tt))) (waiting 0 true)
+  out_resumed : texts.going ≡ false → RuledOut (out.Post κs) (texts, (output, (lent x block, tt))) (waiting 0 true)
   out_resumed stopped s p = true≢false (p.stays_stopped stopped)
 
 -- a text of one octet more in a block of two
 module _ (κs : Lfts 2) (output : Stdout) (x y : Place) (a b c : ℕ) (going : Bool) where
   -- a text that fits, dropped
-  tell_dropped : RuledOut (tell.Post κs) (output, (lent_mut x (a ∷ b ∷ []), (waiting 1 going, (lent y (c ∷ []), (true, tt))))) (waiting 1 going)
+  tell_dropped : RuledOut (tell.Post κs) (waiting 1 going, (output, (lent_mut x (a ∷ b ∷ []), (lent y (c ∷ []), (true, tt))))) (waiting 1 going)
   unfolding fits_at
   tell_dropped s p = omega (arith, ap (λ (r : Texts). r.count) ((p.goes_on refl).count_behind refl))
 
   -- a text written over one that waits, whenever they differ
   tell_over : (a ≡ c → ⊥)
-      → RuledOutWith (λ s. s.1.0.now) (tell.Post κs) (output, (lent_mut x (a ∷ b ∷ []), (waiting 1 going, (lent y (c ∷ []), (true, tt))))) (waiting 2 going) (c ∷ b ∷ [])
+      → RuledOutWith (λ s. s.1.1.0.now) (tell.Post κs) (waiting 1 going, (output, (lent_mut x (a ∷ b ∷ []), (lent y (c ∷ []), (true, tt))))) (waiting 2 going) (c ∷ b ∷ [])
   unfolding fits_at over
   tell_over n s e p = n (cc p.left_so)
 
   -- a text that does not fit behind the others, dropped
-  tell_lost : RuledOut (tell.Post κs) (output, (lent_mut x (a ∷ b ∷ []), (waiting 2 going, (lent y (c ∷ []), (true, tt))))) (waiting 0 going)
+  tell_lost : RuledOut (tell.Post κs) (waiting 2 going, (output, (lent_mut x (a ∷ b ∷ []), (lent y (c ∷ []), (true, tt))))) (waiting 0 going)
   unfolding fits_at
   tell_lost s p = omega (arith, ((p.goes_on refl).else_first refl).count)
 
   -- a text longer than the block, and more to go out behind it
-  tell_long : RuledOut (tell.Post κs) (output, (lent_mut x [], (waiting 0 going, (lent y (c ∷ []), (true, tt))))) (waiting 0 true)
+  tell_long : RuledOut (tell.Post κs) (waiting 0 going, (output, (lent_mut x [], (lent y (c ∷ []), (true, tt))))) (waiting 0 true)
   unfolding fits_at
   tell_long s p = true≢false (((p.goes_on refl).else_first refl).refused refl)
 
   -- the last text still waiting
-  tell_last : RuledOut (tell.Post κs) (output, (lent_mut x (a ∷ b ∷ []), (waiting 1 going, (lent y (c ∷ []), (false, tt))))) (waiting 2 going)
+  tell_last : RuledOut (tell.Post κs) (waiting 1 going, (output, (lent_mut x (a ∷ b ∷ []), (lent y (c ∷ []), (false, tt))))) (waiting 2 going)
   tell_last s p = omega (arith, ap (λ (r : Texts). r.count) (p.ends refl))
 
   -- the last text told, and another left in the block, whenever they differ
-  tell_last_over : (a ≡ c → ⊥) → RuledOutWith (λ s. s.1.0.now) (tell.Post κs) (output, (lent_mut x (a ∷ b ∷ []), (waiting 1 going, (lent y (c ∷ []), (false, tt))))) (waiting 0 false)
+  tell_last_over : (a ≡ c → ⊥) → RuledOutWith (λ s. s.1.1.0.now) (tell.Post κs) (waiting 1 going, (output, (lent_mut x (a ∷ b ∷ []), (lent y (c ∷ []), (false, tt))))) (waiting 0 false)
       (c ∷ b ∷ [])
   unfolding fits_at over
   tell_last_over n s e p = n (cc p.left_so)

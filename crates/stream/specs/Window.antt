@@ -33,3 +33,7 @@ pub record Filled (space : List ℕ) (w : Window) (size : ℕ) (r : Window) (lef
   pub first : take (length (seen_in space w)) (seen_in left r) ≡ seen_in space w
   pub same_window : has_in space w size ≡ true → r ≡ w
   pub unchanged : has_in space w size ≡ true → left ≡ space
+
+-- `FilledAs says space w r left`: it is filled to a size that is said of the octets in window `w`
+abbrev pub FilledAs : (List ℕ → ℕ → Type 0) → List ℕ → Window → Window → List ℕ → Type 0
+FilledAs says space w r left = (size : ℕ) × says (seen_in space w) size × Filled space w size r left

@@ -5,8 +5,5 @@ use Rattle.octets.proofs.Keeping.{added_more}
 use borrow.Author.Rules.{rules}
 use Rattle.card.proofs.hear.Goals as goal
 
-pub returns-in-Is : goal.returns-in-Is
-returns-in-Is c = rw (c.in-Is.is, c.with.ensures, c.new.ensures, added_more [] c.args.user.now (search rules))
-
-pub returns-in-NotOffered : goal.returns-in-NotOffered
-returns-in-NotOffered c = rw c.in-NotOffered.is c.found.ensures
+pub returns-in-Some : goal.returns-in-Some
+returns-in-Some c = rw (c.in-Some.is, c.with.ensures, c.new.ensures, added_more [] c.args.user.now (search rules))

@@ -9,10 +9,10 @@ pub slice_bounds-calls-end : goal.slice_bounds-calls-end
 slice_bounds-calls-end c = sym (length-replicate {0} {A = ℕ} 1500004 0)
 
 pub slice_bounds-calls-end-2 : goal.slice_bounds-calls-end-2
-slice_bounds-calls-end-2 c = sym (length-replicate {0} {A = ℕ} 1500000 0)
+slice_bounds-calls-end-2 c = sym (length-replicate {0} {A = ℕ} 4096 0)
 
 pub slice_bounds-calls-end-3 : goal.slice_bounds-calls-end-3
 slice_bounds-calls-end-3 c = sym (length-replicate {0} {A = ℕ} 1500000 0)
 
 pub slice_bounds-calls-end-4 : goal.slice_bounds-calls-end-4
-slice_bounds-calls-end-4 c = sym (length-replicate {0} {A = ℕ} 4096 0)
+slice_bounds-calls-end-4 c = sym (length-replicate {0} {A = ℕ} 1500000 0)

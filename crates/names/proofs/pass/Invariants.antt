@@ -3,13 +3,12 @@
 use Prim.Native.Nat.{◌-◌, ◌≤◌}
 use mathlib.Core.Path.{◌≡◌}
 use lib.ListN.{length}
-use Rattle.names.specs.LookUp.{none}
-use Rattle.names.specs.working.Pass.{kept, pass_from, passed}
+use Rattle.names.specs.working.Pass.{pass_from, passed}
 use Rattle.names.proofs.pass.Given as goal
 
 abbrev pub invariant-loop-at : goal.invariant-loop-at
 invariant-loop-at l =
-    (1 ≤ l.number) × (l.number ≤ l.at) × (l.at ≤ length l.book) × (kept l.found none ≡ l.found) × (pass_from l.wanted l.book l.at l.number l.before l.found ≡ passed l.wanted l.book)
+    (1 ≤ l.number) × (l.number ≤ l.at) × (l.at ≤ length l.book) × (pass_from l.wanted l.book l.at l.number l.before l.found ≡ passed l.wanted l.book)
 
 abbrev pub decreases-loop-at : goal.decreases-loop-at
 decreases-loop-at l = length l.book - l.at

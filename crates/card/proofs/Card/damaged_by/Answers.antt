@@ -1,13 +1,12 @@
 -- `Card::damaged_by` answers the card after a run that is no sound frame.
 -- By whether the run is damaged. Assumes nothing.
-use Rattle.octets.proofs.Choice.{told}
 use Rattle.card.specs.State.{damaged_by}
 use Rattle.card.proofs.Card.damaged_by.Goals as goal
 
-pub returns-then-is_damaged : goal.returns-then-is_damaged
+pub returns-then-not-is_damaged : goal.returns-then-not-is_damaged
 unfolding damaged_by
-returns-then-is_damaged c = rw (told c.is_damaged.ensures c.if-is_damaged.true, c.new.ensures, c.one_more.ensures)
+returns-then-not-is_damaged c = rw (← c.is_damaged.ensures, c.if-not-is_damaged.true)
 
 pub returns : goal.returns
 unfolding damaged_by
-returns c = rw (told c.is_damaged.ensures c.if-is_damaged.false)
+returns c = rw (← c.is_damaged.ensures, c.if-not-is_damaged.false, c.new.ensures, c.one_more.ensures)
