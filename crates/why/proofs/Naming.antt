@@ -1,11 +1,11 @@
 -- The rules stand in document 01's order, each at its own place and with its own word.
 -- Each rule is where its place says in a list of all; so what is computed over that list holds of every rule. Assumes nothing.
-use Prim.Native.Nat.{ℕ, zero, suc, ◌-◌, ◌*◌, ◌≤◌}
+use Prim.Native.Nat.{ℕ, zero, suc, ◌-◌, ◌≤◌}
 use mathlib.Core.Bool.{true, ◌&&◌}
-use mathlib.Core.List.{List, [], ◌∷◌, ◌++◌, map, flatten}
+use mathlib.Core.List.{List, [], ◌∷◌, map}
 use mathlib.Core.Path.{◌≡◌, refl, sym, ap, ◌∙◌}
 use lib.Dec.{eqb, leb}
-use lib.ListN.{length, get_or, take, drop, replicate}
+use lib.ListN.{get_or, drop}
 use borrow.Author.Tests.{leb-true}
 use Rattle.octets.specs.Choice.{when◌then◌else◌}
 use Rattle.octets.specs.Numbers.{low_first}

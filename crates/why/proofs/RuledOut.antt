@@ -73,7 +73,7 @@ place_other : (rule other : Rule) → (rule ≡ other → ⊥) → RuledOut (pla
 place_other rule other differ s p = differ (places_differ (sym p))
 
 -- the line of another rule, whatever the two are
-line_other : (rule other : Rule) → (rule ≡ other → ⊥) → RuledOut (line.Post tt) (Named rule, tt) (kept_of (why_line (Ok other)))
+line_other : (rule other : Rule) → (rule ≡ other → ⊥) → RuledOut (line.Post tt) (Ok rule, tt) (kept_of (why_line (Ok other)))
 line_other rule other differ s p =
     differ (sym (lines_differ (sym (octets_back (why_line (Ok other))) ∙ ap octets_of p ∙ octets_back (why_line (Ok rule)))))
 

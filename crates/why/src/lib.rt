@@ -1,6 +1,6 @@
 #![tactic(auto)]
 // Why the meter says no: the first rule in document 01's order that applies to a message, by its own name.
-ghost use Rattle.std.specs.Prelude.{◌++◌, ◌≡◌, Ok};
+ghost use Rattle.std.specs.Prelude.{◌++◌, ◌≡◌, Ok, Err};
 ghost use Rattle.octets.specs.Keeping.{kept_of};
 ghost use Rattle.message.specs.Mirror.{pn_bit};
 ghost use Rattle.printing.specs.Text.{decimal};
@@ -36,7 +36,8 @@ pub fn ask(card: Card, image: &[u8], clock: [u8; 7], message: &[u8]) -> Result<R
     }
 }
 
-// A rule's place in document 01's order, from 1 on; accepted comes last.
+// A rule's place in document 01's order, from 1 on; accepted comes last. It is a number, since `place_of` of specs/ is: its theorems say by it which
+// rule is earlier.
 pub fn place(rule: Rule) -> u8
     ensures { result ≡ place_of rule }
 {
@@ -95,11 +96,7 @@ fn word(rule: Rule) -> &'static [u8]
 fn pn_text(rule: Rule) -> &'static [u8]
     ensures { result.now ≡ space ++ decimal (pn_bit (pn_by rule)) ++ newline }
 {
-    if rule.pn() {
-        b" 1\n"
-    } else {
-        b" 0\n"
-    }
+    if rule.pn() { b" 1\n" } else { b" 0\n" }
 }
 
 // The line of a rule: its word, and the cause and P/N of the mirror that it gives. An accepted message is not refused by any.
@@ -116,13 +113,22 @@ fn named(rule: Rule) -> Kept
     }
 }
 
+// The line where no rule is asked for.
+fn unnamed(unasked: Unasked) -> Kept
+    ensures { result ≡ kept_of (why_line (Err unasked)) }
+{
+    match unasked {
+        Unasked::ImageUnsound => Kept::new().with(b"why 1 - - -\n"),
+        Unasked::MessageLength => Kept::new().with(b"why 2 - - -\n"),
+    }
+}
+
 // The line that tells an answer: `why`, its number, the rule's word, cause and P/N, and `-` for what there is not.
 pub fn line(why: Result<Rule, Unasked>) -> Kept
     ensures { result ≡ kept_of (why_line why) }
 {
     match why {
         Ok(rule) => named(rule),
-        Err(Unasked::ImageUnsound) => Kept::new().with(b"why 1 - - -\n"),
-        Err(Unasked::MessageLength) => Kept::new().with(b"why 2 - - -\n"),
+        Err(unasked) => unnamed(unasked),
     }
 }
