@@ -1,7 +1,6 @@
 #![tactic(auto)]
 // The calls of the driving program: what each does to the bench, so that the program only reads, steps and writes.
 ghost use Rattle.std.specs.Prelude.{true, false, [], ◌≡◌, length, take};
-ghost use Rattle.octets.specs.Keeping.{octets_of};
 ghost use Rattle.profile.specs.declared.Profile.TheVariants.{Eleven};
 ghost use Rattle.card.specs.State.{with_characters, with_octets};
 ghost use Rattle.card.specs.Gap.{gapped, Gapped};
@@ -9,12 +8,11 @@ ghost use Rattle.input.specs.declared.Call.TheVariants as call;
 ghost use Rattle.input.specs.Input.{characters_in, call_found};
 ghost use Rattle.printing.specs.Line.{Lined};
 ghost use Rattle.driving.specs.Driven.{at_start, image_of, gap_step, why_text, call_step};
-ghost use Rattle.driving.specs.Stepped.{bench_of, held_of, gone_line, silent_left, Writes, Stepped, ImageAfter};
+ghost use Rattle.driving.specs.Stepped.{bench_of, held_of, gone_line, left_by, Writes, Stepped, ImageAfter};
 
 use card::{Card, Gone};
 use frame::Judged;
 use input::Call;
-use octets::Kept;
 use profile::{Character, Profile};
 
 // What is held between two calls: the profile, the card, the clock, how many octets of the reply buffer a gap is lent.
@@ -46,17 +44,12 @@ fn last(out: &mut [u8], text: &[u8], held: Held) -> Left
 }
 
 // No text, and another call may follow.
-fn silent(profile: Profile, card: Card, clock: [u8; 7], room: u16) -> Left
-    ensures { result ≡ silent_left profile card clock room }
+fn silent(held: Held) -> Left
+    ensures { result ≡ left_by [] held true }
 {
     Left {
         count: 0,
-        held: Held {
-            profile,
-            card,
-            clock,
-            room,
-        },
+        held,
         more: true,
     }
 }
@@ -65,55 +58,40 @@ fn silent(profile: Profile, card: Card, clock: [u8; 7], room: u16) -> Left
 fn octet_by_octet(card: Card, octets: &[u8]) -> Card
     ensures { result ≡ with_octets card octets.now }
 {
-    let mut next = card;
-    let mut i = 0;
-    while i < octets.len() {
-        next = next.octet(octets[i]);
-        i += 1;
-    }
-    next
+    octets.iter().fold(card, |card, octet| card.octet(*octet))
 }
 
 // Characters come in one by one: pairs of an octet and its parity bit.
 fn pair_by_pair(card: Card, pairs: &[u8]) -> Card
     ensures { result ≡ with_characters Eleven card (characters_in pairs.now) }
 {
-    let mut next = card;
-    let mut i = 0;
-    while i + 1 < pairs.len() {
-        next = next.character(Character {
-            octet: pairs[i],
-            parity: pairs[i + 1] == 1,
-        });
-        i += 2;
-    }
-    next
+    pairs.chunks_exact(2).fold(card, |card, pair| {
+        card.character(Character {
+            octet: pair[0],
+            parity: pair[1] == 1,
+        })
+    })
 }
 
 // A gap that is lent so many octets of the buffer, or as many as it has.
 fn lent(card: Card, image: &[u8], clock: [u8; 7], buffer: &mut [u8], room: usize) -> Gone
     ensures { Gapped (gapped card image.now clock (length (take room buffer.old))) buffer.old result buffer.new }
 {
-    if room <= buffer.len() {
-        return card.gap(image, clock, &mut buffer[..room]);
-    }
-    card.gap(image, clock, buffer)
+    let most = room.min(buffer.len());
+    card.gap(image, clock, &mut buffer[..most])
 }
 
 // The line of a gap, with all of the buffer.
 fn line(out: &mut [u8], gone: Gone, buffer: &[u8]) -> usize
     ensures { Lined out.old (gone_line gone buffer.now) result out.new }
 {
-    let order = gone.order;
-    let time = gone.time;
-    let card = gone.card;
     printing::gap_line(
         out,
         gone.number,
         gone.length,
-        order,
-        time,
-        card.damaged,
+        gone.order,
+        gone.time,
+        gone.card.damaged,
         buffer,
     )
 }
@@ -122,39 +100,24 @@ fn line(out: &mut [u8], gone: Gone, buffer: &[u8]) -> usize
 fn gap(out: &mut [u8], held: Held, image: &[u8], buffer: &mut [u8]) -> Left
     ensures { Stepped out.old (gap_step (bench_of held image.now buffer.old)) result buffer.new out.new }
 {
-    let profile = held.profile;
-    let card = held.card;
-    let clock = held.clock;
-    let gone = lent(card, image, clock, buffer, held.room as usize);
-    let after = gone.card;
+    let gone = lent(held.card, image, held.clock, buffer, held.room as usize);
     Left {
         count: line(out, gone, buffer),
         held: Held {
-            profile,
-            card: after,
-            clock,
-            room: held.room,
+            card: gone.card,
+            ..held
         },
         more: true,
     }
-}
-
-// Writes a text that is kept.
-fn put_kept(out: &mut [u8], text: Kept) -> usize
-    ensures { Lined out.old (octets_of text) result out.new }
-{
-    let octets = text.octets;
-    printing::put_text(out, octets::part(&octets, 0, text.length as usize))
 }
 
 // Why the card as it is would refuse a message. Nothing is changed.
 fn asked(out: &mut [u8], held: Held, image: &[u8], message: &[u8]) -> Left
     ensures { Writes out.old (why_text (bench_of held image.now []) message.now) held true result out.new }
 {
-    let card = held.card;
-    let clock = held.clock;
+    let text = why::line(why::ask(held.card, image, held.clock, message));
     Left {
-        count: put_kept(out, why::line(why::ask(card, image, clock, message))),
+        count: printing::put_text(out, text.as_slice()),
         held,
         more: true,
     }
@@ -166,31 +129,33 @@ pub fn step(out: &mut [u8], held: Held, image: &[u8], buffer: &mut [u8], call: &
     ensures { Stepped out.old (call_step (bench_of held image.now buffer.old) call.now) result buffer.new
         out.new }
 {
-    let profile = held.profile;
-    let card = held.card;
-    let clock = held.clock;
-    let room = held.room;
-    match input::judge_call(profile, call) {
+    match input::judge_call(held.profile, call) {
         Call::End => last(out, b"", held),
         Call::Cut => last(out, b"cut\n", held),
         Call::Wrong => last(out, b"call\n", held),
-        Call::Image => silent(profile, card, clock, room),
-        Call::Clock => silent(profile, card, input::clock_at(call, 1), room),
-        Call::Room => silent(profile, card, clock, input::length_of_2(call, 1)),
+        Call::Image => silent(held),
+        Call::Clock => silent(Held {
+            clock: input::clock_at(call, 1),
+            ..held
+        }),
+        Call::Room => silent(Held {
+            room: input::length_of_2(call, 1),
+            ..held
+        }),
         // With eleven bits each octet has its right parity bit, and is taken as it is without.
-        Call::Octets => silent(
-            profile,
-            octet_by_octet(card, octets::part(call, 3, call.len())),
-            clock,
-            room,
-        ),
-        Call::ElevenBits => silent(Profile::Eleven, Card::power_on(), clock, room),
-        Call::Characters => silent(
-            profile,
-            pair_by_pair(card, octets::part(call, 3, call.len())),
-            clock,
-            room,
-        ),
+        Call::Octets => silent(Held {
+            card: octet_by_octet(held.card, octets::part(call, 3, call.len())),
+            ..held
+        }),
+        Call::ElevenBits => silent(Held {
+            profile: Profile::Eleven,
+            card: Card::power_on(),
+            ..held
+        }),
+        Call::Characters => silent(Held {
+            card: pair_by_pair(held.card, octets::part(call, 3, call.len())),
+            ..held
+        }),
         Call::Gap => gap(out, held, image, buffer),
         Call::Why => asked(out, held, image, octets::part(call, 3, call.len())),
     }
@@ -201,9 +166,10 @@ fn stand(space: &mut [u8], had: usize, image: &[u8]) -> usize
     ensures { ImageAfter call.Image space.old had image.now result space.new }
 {
     if octets::put(space, 0, image) {
-        return image.len();
+        image.len()
+    } else {
+        had
     }
-    had
 }
 
 // The image lent after a call: how many of its space's octets count. That of an I takes the place of the one before.

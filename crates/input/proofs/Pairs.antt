@@ -1,57 +1,43 @@
--- Pairs of an octet and its parity bit, one after the other from a place on: whether the bits are 00 or 01, and which characters they are.
--- By the first pair. Assumes nothing.
-use Prim.Native.Nat.{ℕ, suc, ◌+◌, ◌≤◌, ◌<◌}
-use mathlib.Core.Bool.{Bool, true, false}
-use mathlib.Core.List.{List, [], ◌∷◌}
-use mathlib.Core.Path.{◌≡◌, refl, sym, ap, ◌∙◌}
-use native.Mathlib.Omega.{arith}
-use borrow.Author.Tests.{lt-ltb, le-ltb}
-use lib.Dec.{eqb}
-use lib.ListN.{length, get_or, take, drop, length-drop}
-use lib.Seq.{take_all, drop-cons}
-use Rattle.input.specs.Input.{are_bits, characters_in}
+-- Pairs of an octet and its parity bit, one after the other: whether the bits are 00 or 01, and which characters they are.
+-- A slice's chunks of two are its pairs. By the first pair. Assumes nothing.
+use Rattle.std.proofs.Common.{◌≡◌, ℕ, ◌<◌, List, [], ◌∷◌, ◌++◌, length, slice_index, refl, subst, ap, ◌∙◌, arith, ltb}
+use Rattle.std.proofs.lemmas.Iterator.{YieldsList}
+use Rattle.std.proofs.lemmas.Iterator.Splits.{YieldsList-from_shown_while}
+use Rattle.std.specs.List.{list_all}
+use Rattle.std.specs.Slice.Iter.{chunks_exact_steps, chunks_exact_rest, chunks_exact_size}
+use Rattle.input.specs.Input.{are_bits}
 
--- a pair, and what stands behind it
-pub pair_first : (pairs : List ℕ) (i : ℕ) → i + 1 < length pairs → drop i pairs ≡ get_or pairs i 0 ∷ get_or pairs (i + 1) 0 ∷ drop (i + 2) pairs
-pair_first pairs i h =
-    let one : suc i ≡ i + 1 = omega arith in
-    let two : suc (i + 1) ≡ i + 2 = omega arith in
-    drop-cons pairs i 0 (omega arith) ∙ rw (one, drop-cons pairs (i + 1) 0 h, two)
+-- an octet that is left over is no pair
+unfoldable pub pairs_in : List ℕ → List (List ℕ)
+pairs_in [] = []
+pairs_in (octet ∷ []) = []
+pairs_in (octet ∷ bit ∷ rest) = (octet ∷ bit ∷ []) ∷ pairs_in rest
 
-module _ (pairs : List ℕ) (i : ℕ) where
-  pub bits_next : i + 1 < length pairs → get_or pairs (i + 1) 0 ≤ 1 → are_bits (drop i pairs) ≡ are_bits (drop (i + 2) pairs)
-  unfolding are_bits
-  bits_next h bit = rw (pair_first pairs i h, lt-ltb (get_or pairs (i + 1) 0) 2 (omega arith))
+no_pairs : (octets : List ℕ) → length octets < 2 → length (pairs_in octets) ≡ 0
+unfolding pairs_in
+no_pairs [] h = refl
+no_pairs (octet ∷ []) h = refl
+no_pairs (octet ∷ bit ∷ rest) h = absurd (omega arith)
 
-  pub bits_wrong : i + 1 < length pairs → 1 < get_or pairs (i + 1) 0 → are_bits (drop i pairs) ≡ false
-  unfolding are_bits
-  bits_wrong h bit = rw (pair_first pairs i h, le-ltb (get_or pairs (i + 1) 0) 2 bit)
+first_pair : (pair rest : List ℕ) → length pair ≡ 2 → pairs_in (pair ++ rest) ≡ pair ∷ pairs_in rest
+unfolding pairs_in
+first_pair [] rest h = absurd (omega arith)
+first_pair (octet ∷ []) rest h = absurd (omega arith)
+first_pair (octet ∷ bit ∷ []) rest h = refl
+first_pair (octet ∷ bit ∷ more ∷ others) rest h = absurd (omega arith)
 
-  -- no pair is left
-  pub bits_end : length pairs ≤ i + 1 → are_bits (drop i pairs) ≡ true
-  unfolding are_bits
-  bits_end h = none (drop i pairs) (omega (arith, length-drop i pairs))
-    where
-      none : (rest : List ℕ) → length rest ≤ 1 → are_bits rest ≡ true
-      none [] h = refl
-      none (octet ∷ []) h = refl
-      none (octet ∷ bit ∷ rest) h = absurd (omega arith)
+-- the chunks of two
+pub pairs_yield : {s : _} (octets : List ℕ) → chunks_exact_rest s ≡ octets → chunks_exact_size s ≡ 2
+    → YieldsList (chunks_exact_steps {A = ℕ}) (λ pair. pair.now) s (pairs_in octets)
+pairs_yield {s} octets e size =
+    subst (λ (l : List ℕ). YieldsList (chunks_exact_steps {A = ℕ}) (λ pair. pair.now) s (pairs_in l)) e
+    (YieldsList-from_shown_while chunks_exact_steps (λ pair. pair.now) (λ t. pairs_in (chunks_exact_rest t)) (λ t. chunks_exact_size t ≡ 2)
+    (λ t u two step. no_pairs (chunks_exact_rest t) (omega (arith, two, step.1.0)))
+    (λ t pair u two step. (step.0 ∙ two, ap pairs_in step.1.0 ∙ first_pair pair.now (chunks_exact_rest u) (step.1.1 ∙ two)))
+    s size)
 
-  pub characters_next : i + 1 < length pairs
-      → characters_in (drop i pairs) ≡ record { octet = get_or pairs i 0; parity = eqb (get_or pairs (i + 1) 0) 1 } ∷ characters_in (drop (i + 2) pairs)
-  unfolding characters_in
-  characters_next h = rw (pair_first pairs i h)
-
-  pub characters_end : length pairs ≤ i + 1 → characters_in (drop i pairs) ≡ []
-  unfolding characters_in
-  characters_end h = none (drop i pairs) (omega (arith, length-drop i pairs))
-    where
-      none : (rest : List ℕ) → length rest ≤ 1 → characters_in rest ≡ []
-      none [] h = refl
-      none (octet ∷ []) h = refl
-      none (octet ∷ bit ∷ rest) h = absurd (omega arith)
-
--- what is answered of all that stands behind an index
-pub bits_told : (read : List ℕ) (at : ℕ) {part : List ℕ} {answer said : Bool} → part ≡ take (length read) (drop at read) → answer ≡ are_bits part → answer ≡ said
-    → are_bits (drop at read) ≡ said
-bits_told read at e f g = ap are_bits (sym (e ∙ take_all (length read) (drop at read) (omega (arith, length-drop at read)))) ∙ sym f ∙ g
+pub bits_of_pairs : (octets : List ℕ) → list_all (λ pair. ltb (slice_index pair 1) 2) (pairs_in octets) ≡ are_bits octets
+unfolding pairs_in are_bits
+bits_of_pairs [] = refl
+bits_of_pairs (octet ∷ []) = refl
+bits_of_pairs (octet ∷ bit ∷ rest) = rw (bits_of_pairs rest)

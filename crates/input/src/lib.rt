@@ -1,11 +1,14 @@
 #![tactic(auto)]
 // How the programs' inputs are taken apart: functions on the octets read so far, so that a program only reads, calls and writes.
-ghost use Rattle.std.specs.Prelude.{◌≡◌};
-ghost use Rattle.input.specs.Input.{length_of2, length_of3, clock_at, head_size, image_in, clock_in, head_found, run_size, run_found, takes_octets, takes_characters, are_bits, call_size, whole_call, call_found};
+ghost use Rattle.std.specs.Prelude.{◌+◌, ◌*◌, ◌≤◌, ◌≡◌, ltb, length};
+ghost use Rattle.octets.specs.Choice.{when◌then◌else◌};
+ghost use Rattle.input.specs.Input.{length_of2, length_of3, clock_at, head_size, image_in, clock_in, head_found, run_size, run_found, are_bits, call_size, whole_call, call_found};
 
+use octets::Number;
 use profile::Profile;
 
-// What stands before the runs: another version, input that is cut, an unsound image, or all in order.
+// What stands before the runs: another version, input that is cut, an unsound image, or all in order. It is no Result: `turns::start` gives each of
+// the four its own text, and `head_found` of specs/ names them in one list.
 #[derive(Clone, Copy)]
 pub enum Head {
     Version,
@@ -14,7 +17,7 @@ pub enum Head {
     Whole,
 }
 
-// What follows: no more runs, one that is cut, or one that is whole.
+// What follows: no more runs, one that is cut, or one that is whole. It is no Option of a Result: the three stand beside each other in one match.
 #[derive(Clone, Copy)]
 pub enum Run {
     End,
@@ -39,11 +42,12 @@ pub enum Call {
 }
 
 // A 2-octet length, big-endian.
+#[tactic(auto, unfolding(crate::specs::Input::length_of2))]
 pub fn length_of_2(read: &[u8], at: u8) -> u16
     ensures { result ≡ length_of2 read.now at }
 {
     let at = at as usize;
-    octets::high_first_2(octets::octet_at(read, at), octets::octet_at(read, at + 1))
+    u16::from_high_first([octets::octet_at(read, at), octets::octet_at(read, at + 1)])
 }
 
 // A 3-octet length, big-endian.
@@ -51,12 +55,12 @@ fn length_of_3(read: &[u8], at: u8) -> u32
     ensures { result ≡ length_of3 read.now at }
 {
     let at = at as usize;
-    octets::high_first_4(
+    u32::from_high_first([
         0,
         octets::octet_at(read, at),
         octets::octet_at(read, at + 1),
         octets::octet_at(read, at + 2),
-    )
+    ])
 }
 
 // Seven clock octets from an index on; a clock that is cut ends with zeros.
@@ -69,27 +73,27 @@ pub fn clock_at(read: &[u8], at: usize) -> [u8; 7]
 }
 
 // How many octets the head has, as far as those read tell.
+#[tactic(auto, unfolding(crate::specs::Input::head_size))]
 pub fn head_size(read: &[u8]) -> usize
     ensures { result ≡ head_size read.now }
 {
-    if read.len() < 1 {
-        return 1;
+    if read.is_empty() || octets::octet_at(read, 0) != 1 {
+        1
+    } else if read.len() < 3 {
+        3
+    } else {
+        10 + length_of_2(read, 1) as usize
     }
-    if octets::octet_at(read, 0) == 1 {
-        if read.len() < 3 {
-            return 3;
-        }
-        return 10 + length_of_2(read, 1) as usize;
-    }
-    1
 }
 
+#[tactic(auto, unfolding(crate::specs::Input::image_in))]
 pub fn image_in(read: &[u8]) -> &[u8]
     ensures { result.now ≡ image_in read.now }
 {
     octets::part(read, 3, length_of_2(read, 1) as usize)
 }
 
+#[tactic(auto, unfolding(crate::specs::Input::clock_in))]
 pub fn clock_in(read: &[u8]) -> [u8; 7]
     ensures { result ≡ clock_in read.now }
 {
@@ -97,62 +101,67 @@ pub fn clock_in(read: &[u8]) -> [u8; 7]
 }
 
 // What a head is, when no more octets come.
+#[tactic(auto, unfolding(crate::specs::Input::head_found))]
 pub fn judge_head(read: &[u8]) -> Head
     ensures { result ≡ head_found read.now }
 {
-    if read.len() < 1 {
-        return Head::Cut;
+    if read.is_empty() {
+        Head::Cut
+    } else if octets::octet_at(read, 0) != 1 {
+        Head::Version
+    } else if read.len() < head_size(read) {
+        Head::Cut
+    } else if !image::sound(image_in(read)) {
+        Head::Image
+    } else {
+        Head::Whole
     }
-    if octets::octet_at(read, 0) == 1 {
-        if read.len() < head_size(read) {
-            return Head::Cut;
-        }
-        if image::sound(image_in(read)) {
-            return Head::Whole;
-        }
-        return Head::Image;
-    }
-    Head::Version
 }
 
+#[tactic(auto, unfolding(crate::specs::Input::run_size))]
 pub fn run_size(read: &[u8]) -> usize
     ensures { result ≡ run_size read.now }
 {
     if read.len() < 2 {
-        return 2;
+        2
+    } else {
+        2 + length_of_2(read, 0) as usize
     }
-    2 + length_of_2(read, 0) as usize
 }
 
+#[tactic(auto, unfolding(crate::specs::Input::run_found))]
 pub fn judge_run(read: &[u8]) -> Run
     ensures { result ≡ run_found read.now }
 {
-    if read.len() < 1 {
-        return Run::End;
+    if read.is_empty() {
+        Run::End
+    } else if read.len() < run_size(read) {
+        Run::Cut
+    } else {
+        Run::Whole
     }
-    if read.len() < run_size(read) {
-        return Run::Cut;
-    }
-    Run::Whole
 }
 
-// Whether a letter is that of an O or a W: a 2-octet length and octets follow.
-fn takes_octets(letter: u8) -> bool
-    ensures { result ≡ takes_octets letter }
+// How many octets an I has: of one whose image is too long only the length is asked for.
+fn image_size(read: &[u8]) -> usize
+    ensures { result ≡ (when ltb (length read.now) 4 then 4 else when ltb 65600 (length_of3 read.now 1) then 4 else 4 + length_of3 read.now 1) }
 {
-    if letter == b'O' {
-        return true;
+    if read.len() < 4 || 65600 < length_of_3(read, 1) {
+        4
+    } else {
+        4 + length_of_3(read, 1) as usize
     }
-    letter == b'W'
 }
 
-// Whether a letter is that of a P: a call of an eleven-bit card alone.
-fn takes_characters(profile: Profile, letter: u8) -> bool
-    ensures { result ≡ takes_characters profile letter }
+// How many octets a call has whose letter a 2-octet length follows, and so many times `width` octets.
+fn counted_size(read: &[u8], width: usize) -> usize
+    requires { width ≤ 2 }
+    ensures { result ≡ (when ltb (length read.now) 3 then 3 else 3 + width * length_of2 read.now 1) }
 {
-    match profile {
-        Profile::Ten => false,
-        Profile::Eleven => letter == b'P',
+    if read.len() < 3 {
+        3
+    } else {
+        3 + width * length_of_2(read, 1) as usize
     }
 }
 
@@ -160,99 +169,50 @@ fn takes_characters(profile: Profile, letter: u8) -> bool
 fn are_bits(pairs: &[u8]) -> bool
     ensures { result ≡ are_bits pairs.now }
 {
-    let mut i = 0;
-    while i + 1 < pairs.len() {
-        if 1 < pairs[i + 1] {
-            return false;
-        }
-        i += 2;
-    }
-    true
+    pairs.chunks_exact(2).all(|pair| pair[1] < 2)
 }
 
+#[tactic(auto, unfolding(crate::specs::Input::call_size))]
 pub fn call_size(profile: Profile, read: &[u8]) -> usize
     ensures { result ≡ call_size profile read.now }
 {
-    let letter = octets::octet_at(read, 0);
-    if letter == b'I' {
-        if read.len() < 4 {
-            return 4;
-        }
-        let many = length_of_3(read, 1);
-        if 65600 < many {
-            return 4;
-        }
-        return 4 + many as usize;
+    match octets::octet_at(read, 0) {
+        b'I' => image_size(read),
+        b'C' => 8,
+        b'B' => 3,
+        b'O' | b'W' => counted_size(read, 1),
+        b'P' if matches!(profile, Profile::Eleven) => counted_size(read, 2),
+        _ => 1,
     }
-    if letter == b'C' {
-        return 8;
-    }
-    if letter == b'B' {
-        return 3;
-    }
-    if takes_octets(letter) {
-        if read.len() < 3 {
-            return 3;
-        }
-        return 3 + length_of_2(read, 1) as usize;
-    }
-    if takes_characters(profile, letter) {
-        if read.len() < 3 {
-            return 3;
-        }
-        return 3 + 2 * length_of_2(read, 1) as usize;
-    }
-    1
 }
 
+#[tactic(auto, unfolding(crate::specs::Input::whole_call))]
 fn whole_call(profile: Profile, read: &[u8]) -> Call
     ensures { result ≡ whole_call profile read.now }
 {
-    let letter = octets::octet_at(read, 0);
-    if letter == b'I' {
-        if 65600 < length_of_3(read, 1) {
-            return Call::Wrong;
-        }
-        return Call::Image;
+    match octets::octet_at(read, 0) {
+        b'I' if length_of_3(read, 1) <= 65600 => Call::Image,
+        b'C' => Call::Clock,
+        b'B' if length_of_2(read, 1) <= 300 => Call::Room,
+        b'O' => Call::Octets,
+        b'E' => Call::ElevenBits,
+        b'P' if matches!(profile, Profile::Eleven) && are_bits(octets::part(read, 3, read.len())) =>
+            Call::Characters,
+        b'G' => Call::Gap,
+        b'W' => Call::Why,
+        _ => Call::Wrong,
     }
-    if letter == b'C' {
-        return Call::Clock;
-    }
-    if letter == b'B' {
-        if 300 < length_of_2(read, 1) {
-            return Call::Wrong;
-        }
-        return Call::Room;
-    }
-    if letter == b'O' {
-        return Call::Octets;
-    }
-    if letter == b'E' {
-        return Call::ElevenBits;
-    }
-    if takes_characters(profile, letter) {
-        if are_bits(octets::part(read, 3, read.len())) {
-            return Call::Characters;
-        }
-        return Call::Wrong;
-    }
-    if letter == b'G' {
-        return Call::Gap;
-    }
-    if letter == b'W' {
-        return Call::Why;
-    }
-    Call::Wrong
 }
 
+#[tactic(auto, unfolding(crate::specs::Input::call_found))]
 pub fn judge_call(profile: Profile, read: &[u8]) -> Call
     ensures { result ≡ call_found profile read.now }
 {
-    if read.len() < 1 {
-        return Call::End;
+    if read.is_empty() {
+        Call::End
+    } else if read.len() < call_size(profile, read) {
+        Call::Cut
+    } else {
+        whole_call(profile, read)
     }
-    if read.len() < call_size(profile, read) {
-        return Call::Cut;
-    }
-    whole_call(profile, read)
 }

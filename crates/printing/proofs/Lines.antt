@@ -2,30 +2,28 @@
 -- By what is put behind what, and by the laws of `over`. Assumes nothing.
 use Prim.Native.Nat.{ℕ, ◌+◌, ◌*◌, ◌≤◌, ◌<◌}
 use mathlib.Core.Bool.{Bool, true, false}
-use mathlib.Core.List.{List, [], ◌∷◌, ◌++◌, append-nil}
+use mathlib.Core.List.{List, [], ◌∷◌, ◌++◌, append-nil, append_assoc}
 use mathlib.Core.Path.{◌≡◌, refl, ap, ◌∙◌}
 use native.Mathlib.Omega.{arith}
 use borrow.Author.Tests.{le-leb, lt-leb, ltb-true, ltb-false}
 use lib.Dec.{ltb}
 use lib.ListN.{length, take, drop, get_or, length-append, length-take}
-use lib.Seq.{take_at}
 use Rattle.octets.specs.Over.{over}
-use Rattle.octets.specs.Calls.{fits_at}
+use Rattle.octets.specs.Calls.{fits_at, added}
+use Rattle.octets.specs.Keeping.{octets_of, kept_of}
+use Rattle.octets.proofs.Keeping.{added_more, octets_back}
 use Rattle.octets.proofs.Choice.{told}
-use Rattle.octets.proofs.Over.{Put, over_none, over_first, over_after, over_length, put_fits}
+use Rattle.octets.proofs.Over.{Put, over_first, over_after, over_length, put_fits}
 use Rattle.deeds.specs.declared.Order.{Order}
 use Rattle.deeds.specs.declared.Order.TheVariants.{NoOrder, SetClock, SetDates}
 use Rattle.printing.specs.Text.{decimal, pair_of, pairs}
-use Rattle.printing.specs.Line.{space, newline, word, reply_text, dash_for, time_text, PutAt, PutShort, Lined}
+use Rattle.printing.specs.Line.{space, newline, word, reply_text, dash_for, beginning, line_of, gap_line, time_text, PutAt, Lined}
 use Rattle.printing.proofs.Text.{decimal_length, pairs_length, pairs_more}
 
--- what `put` puts where there is room, and where nothing is put
+-- what `put` puts where there is room
 pub put_at : (under : List ℕ) (at : ℕ) (part : List ℕ) {done : Bool} {left : List ℕ} → at + length part ≤ length under → Put under at part done left
     → PutAt under at part (at + length part) left
 put_at under at part room p = record { ends = refl; fits = room; stands = put_fits under at part p room }
-
-pub put_nothing : (under : List ℕ) (at : ℕ) → at ≤ length under → PutAt under at [] at under
-put_nothing under at room = record { ends = omega arith; fits = room; stands = over_none under at [] }
 
 -- a part behind another
 pub behind : {under mid left xs ys : List ℕ} {at to end : ℕ} → PutAt under at xs to mid → PutAt mid to ys end left → PutAt under at (xs ++ ys) end left
@@ -39,31 +37,16 @@ behind {under} {xs = xs} {ys} {at} {to} {end} p q =
       stands = q.stands ∙ rw p.stands (over_after under at xs ys to p.ends (omega arith));
     }
 
-pub short_behind : {under mid left xs ys : List ℕ} {at to end m n : ℕ} → PutShort m under at xs to mid → PutShort n mid to ys end left
-    → PutShort (m + n) under at (xs ++ ys) end left
-short_behind p q = record { put = behind p.put q.put; short = simp length-append (omega (arith, p.short, q.short)) }
+-- the buffer stays as long as it is
+pub kept_length : {under left part : List ℕ} {at to : ℕ} → PutAt under at part to left → length left ≡ length under
+kept_length {under} {part = part} {at} p = ap length p.stands ∙ over_length under at part (omega (arith, p.ends, p.fits))
 
 -- one pair more
-pub pair_behind : (before octets : List ℕ) (i : ℕ) → i < length octets → {under mid left : List ℕ} {at to end : ℕ}
-    → PutAt under at (pairs before (take i octets)) to mid → PutAt mid to (before ++ pair_of (get_or octets i 0)) end left
-    → PutAt under at (pairs before (take (i + 1) octets)) end left
-pair_behind before octets i h p q = rw (pairs_more before octets i h) at (behind p q)
-
--- what a text has up to the end of its last part
-pub up_to_end : {under part left : List ℕ} {at to : ℕ} → PutAt under at part to left → take to left ≡ take at under ++ part
-unfolding over
-up_to_end {under} {part} {at = at} {to} p =
-    let front : length (take at under ++ part) ≡ to = simp (length-append, length-take) (omega arith) in
-    rw p.stands (take_at (take at under ++ part) (drop (at + length part) under) to front)
-
--- how many octets the parts of a head have at most
-pub word_length : (order : Order) → length (word order) ≤ 5
-word_length NoOrder = omega arith
-word_length SetClock = omega arith
-word_length SetDates = omega arith
-
-pub number_short : (n : ℕ) {under left : List ℕ} {at to : ℕ} → PutAt under at (decimal n ++ space) to left → PutShort 21 under at (decimal n ++ space) to left
-number_short n p = record { put = p; short = simp length-append (omega (arith, decimal_length n)) }
+pub pair_behind : (head before octets : List ℕ) (i : ℕ) → i < length octets → {under mid left : List ℕ} {at to end : ℕ}
+    → PutAt under at (head ++ pairs before (take i octets)) to mid → PutAt mid to (before ++ pair_of (get_or octets i 0)) end left
+    → PutAt under at (head ++ pairs before (take (i + 1) octets)) end left
+pair_behind head before octets i h p q =
+    rw (append_assoc head (pairs before (take i octets)) (before ++ pair_of (get_or octets i 0)), pairs_more before octets i h) at (behind p q)
 
 -- `Lined` in its two cases
 module _ (under text : List ℕ) where
@@ -108,18 +91,17 @@ module _ (under text : List ℕ) {left : List ℕ} {count : ℕ} (p : Lined unde
   unfolding fits_at
   kept short = rw (lt-leb (0 + length text) (length under) (omega arith)) at p.left_so
 
--- what `fits` finds is room for the whole line, whose head is cut out of a text
-module _ (under before octets : List ℕ) {head text : List ℕ} {r : Bool} (cut : head ≡ text)
-    (found : r ≡ ltb (length head + length octets * (length before + 2)) (length under)) where
+-- what `fits` finds is room for the whole line
+module _ (under head before octets : List ℕ) {r : Bool} (found : r ≡ ltb (length head + length octets * (length before + 2)) (length under)) where
   pub room_whole : r ≡ true → length head + length (pairs before octets) < length under
   room_whole t =
       let h = ltb-true (length head + length octets * (length before + 2)) (length under) (told found t) in
       omega (arith, h, pairs_length before octets)
 
-  pub lined_none : r ≡ false → Lined under (text ++ pairs before octets ++ newline) 0 under
+  pub lined_none : r ≡ false → Lined under (head ++ pairs before octets ++ newline) 0 under
   lined_none t =
       let h = ltb-false (length head + length octets * (length before + 2)) (length under) (told found t) in
-      rw cut at (lined_not under (head ++ pairs before octets ++ newline) (simp length-append (omega (arith, h, pairs_length before octets))))
+      lined_not under (head ++ pairs before octets ++ newline) (simp length-append (omega (arith, h, pairs_length before octets)))
 
 -- a reply is its dash or its pairs
 pub dash_none : (reply : List ℕ) → length reply ≡ 0 → dash_for reply ≡ reply_text []
@@ -137,22 +119,88 @@ unfolding dash_for pairs
 dash_or_pairs front [] = append-nil (front ++ reply_text [])
 dash_or_pairs front (octet ∷ reply) = rw append-nil
 
-pub reply_behind : {under left : List ℕ} {at to : ℕ} (reply : List ℕ) → PutAt under at (dash_for reply) to left
-    → take to left ++ pairs space reply ≡ take at under ++ reply_text reply
-reply_behind {under} {at = at} reply p = rw (up_to_end p) (dash_or_pairs (take at under) reply)
+-- how many octets the parts of a head have at most
+pub word_length : (order : Order) → length (word order) ≤ 5
+word_length NoOrder = omega arith
+word_length SetClock = omega arith
+word_length SetDates = omega arith
 
--- the octets of an order
 few_pairs : (k : ℕ) (time : List ℕ) → k ≤ 10 → length (pairs [] (take k time)) ≤ 20
 few_pairs k time few = omega (arith, pairs_length [] (take k time), length-take k time)
-
-module _ (time : List ℕ) (k : ℕ) (few : k ≤ 10) {some : List ℕ} (part : some ≡ take k time) where
-  pub time_room : (under : List ℕ) (at : ℕ) → at + 20 ≤ length under → at + length (pairs [] some) ≤ length under
-  time_room under at room = rw part (omega (arith, few_pairs k time few))
-
-  pub time_short : {under left : List ℕ} {at to : ℕ} → PutAt under at (pairs [] some) to left → PutShort 20 under at (pairs [] (take k time)) to left
-  time_short p = record { put = rw part at p; short = few_pairs k time few }
 
 pub time_length : (order : Order) (time : List ℕ) → length (time_text order time) ≤ 20
 time_length NoOrder time = omega arith
 time_length SetClock time = few_pairs 7 time (omega arith)
 time_length SetDates time = few_pairs 10 time (omega arith)
+
+beginning_length : (first second : ℕ) (order : Order) → length (beginning first second order) ≤ 47
+unfolding beginning
+beginning_length first second order =
+    let one = decimal_length first in
+    let two = decimal_length second in
+    let last = word_length order in
+    simp length-append (omega arith)
+
+dash_length : (reply : List ℕ) → length (dash_for reply) ≤ 2
+unfolding dash_for
+dash_length [] = omega arith
+dash_length (octet ∷ reply) = omega arith
+
+-- heads that are kept, part behind part
+pub beginning_kept : (first second : ℕ) (order : Order)
+    → added (added (added (added (added (kept_of []) (decimal first)) space) (decimal second)) space) (word order) ≡ kept_of (beginning first second order)
+unfolding beginning
+beginning_kept first second order =
+    let one = decimal_length first in
+    let two = decimal_length second in
+    let last = word_length order in
+    rw (
+      added_more [] (decimal first) (omega arith),
+      added_more (decimal first) space (omega arith),
+      added_more (decimal first ++ space) (decimal second) (simp length-append (omega arith)),
+      added_more ((decimal first ++ space) ++ decimal second) space (simp length-append (omega arith)),
+      added_more (((decimal first ++ space) ++ decimal second) ++ space) (word order) (simp length-append (omega arith)),
+    )
+
+pub gap_kept : (number count : ℕ) (order : Order) (time : List ℕ) (damaged : ℕ)
+    → added (added (added (added (added (kept_of (beginning number count order)) space) (time_text order time)) space) (decimal damaged)) space
+    ≡ kept_of (beginning number count order ++ space ++ time_text order time ++ space ++ decimal damaged ++ space)
+gap_kept number count order time damaged =
+    let front = beginning number count order in
+    let middle = time_text order time in
+    let one = beginning_length number count order in
+    let two = time_length order time in
+    let last = decimal_length damaged in
+    rw (
+      added_more front space (omega arith),
+      added_more (front ++ space) middle (simp length-append (omega arith)),
+      added_more ((front ++ space) ++ middle) space (simp length-append (omega arith)),
+      added_more (((front ++ space) ++ middle) ++ space) (decimal damaged) (simp length-append (omega arith)),
+      added_more ((((front ++ space) ++ middle) ++ space) ++ decimal damaged) space (simp length-append (omega arith)),
+    )
+
+-- a pair of the octets of an order behind those before it
+pub pair_kept : (octets : List ℕ) (i : ℕ) → i < length octets → length octets ≤ 10
+    → added (kept_of (pairs [] (take i octets))) (pair_of (get_or octets i 0)) ≡ kept_of (pairs [] (take (i + 1) octets))
+unfolding pair_of
+pair_kept octets i h few =
+    let more : pairs [] (take i octets) ++ pair_of (get_or octets i 0) ≡ pairs [] (take (i + 1) octets) = pairs_more [] octets i h in
+    let room : length (pairs [] (take i octets)) + 2 ≤ 252 = omega (arith, pairs_length [] (take i octets), length-take i octets) in
+    added_more (pairs [] (take i octets)) (pair_of (get_or octets i 0)) room ∙ ap kept_of more
+
+-- a line from its head on
+pub run_line : (number result : ℕ) (order : Order) (reply head : List ℕ) → head ≡ octets_of (added (kept_of (beginning number result order)) (dash_for reply))
+    → head ++ pairs space reply ++ newline ≡ line_of number result order reply
+unfolding line_of
+run_line number result order reply head e =
+    let front = beginning number result order in
+    let room : length front + length (dash_for reply) ≤ 252 = omega (arith, beginning_length number result order, dash_length reply) in
+    let is : head ≡ front ++ dash_for reply = e ∙ rw (added_more front (dash_for reply) room) (octets_back (front ++ dash_for reply)) in
+    ap (λ (l : List ℕ). l ++ pairs space reply ++ newline) is ∙ ap (λ (l : List ℕ). l ++ newline) (dash_or_pairs front reply)
+
+pub gap_text : (number count : ℕ) (order : Order) (time : List ℕ) (damaged : ℕ) (buffer head : List ℕ)
+    → head ≡ octets_of (kept_of (beginning number count order ++ space ++ time_text order time ++ space ++ decimal damaged ++ space))
+    → head ++ pairs [] buffer ++ newline ≡ gap_line number count order time damaged buffer
+unfolding gap_line
+gap_text number count order time damaged buffer head e =
+    rw (e ∙ octets_back (beginning number count order ++ space ++ time_text order time ++ space ++ decimal damaged ++ space))

@@ -3,18 +3,17 @@
 use Prim.Native.Nat.{ℕ, zero, suc, ◌+◌, ◌*◌, ◌/◌, ◌%◌, ◌^◌, ◌≤◌, ◌<◌}
 use mathlib.Core.List.{List, [], ◌∷◌, ◌++◌, append_assoc, append-nil}
 use mathlib.Core.Path.{◌≡◌, refl, sym}
-use native.Mathlib.Nat.{suc-mul, zero-mul, mod-lt, mod-add-div', mul-le-mul_right}
+use native.Mathlib.Nat.{suc-mul, zero-mul}
 use native.Mathlib.Numerals.{add-one}
 use native.Mathlib.Omega.{arith}
 use borrow.Author.Tests.{lt-ltb, le-ltb}
-use lib.Arith.{digits_lt}
 use lib.Dec.{ltb}
 use lib.ListN.{length, take, get_or, length-append}
 use lib.Seq.{take-suc}
 use Rattle.std.specs.Prelude.{decimal as decimal_text}
 use Rattle.std.proofs.lemmas.Fmt.{AppendsLastDigit, decimal_from_appends, length-decimal-le}
 use Rattle.octets.proofs.Choice.{either}
-use Rattle.printing.specs.Text.{figures, decimal, pair_of, pairs}
+use Rattle.printing.specs.Text.{figures, decimal, hex_figure, pair_of, pairs}
 
 -- no more figures than places
 figures_length : (places n : ℕ) → length (figures places n) ≤ places
@@ -40,6 +39,28 @@ appends = record {
 pub digits_decimal : (n : ℕ) → n < 2 ^ 64 → decimal_text n ≡ decimal n
 unfolding decimal
 digits_decimal n h = sym (decimal_from_appends figures appends 20 n h (length-decimal-le 20 n (omega arith) (omega arith) h))
+
+-- the hex figures in their order
+pub figure_at : (n : ℕ) → n < 16
+    → get_or (48 ∷ 49 ∷ 50 ∷ 51 ∷ 52 ∷ 53 ∷ 54 ∷ 55 ∷ 56 ∷ 57 ∷ 65 ∷ 66 ∷ 67 ∷ 68 ∷ 69 ∷ 70 ∷ []) n 0 ≡ hex_figure n
+unfolding hex_figure
+figure_at zero h = refl
+figure_at (suc zero) h = refl
+figure_at (suc (suc zero)) h = refl
+figure_at (suc (suc (suc zero))) h = refl
+figure_at (suc (suc (suc (suc zero)))) h = refl
+figure_at (suc (suc (suc (suc (suc zero))))) h = refl
+figure_at (suc (suc (suc (suc (suc (suc zero)))))) h = refl
+figure_at (suc (suc (suc (suc (suc (suc (suc zero))))))) h = refl
+figure_at (suc (suc (suc (suc (suc (suc (suc (suc zero)))))))) h = refl
+figure_at (suc (suc (suc (suc (suc (suc (suc (suc (suc zero))))))))) h = refl
+figure_at (suc (suc (suc (suc (suc (suc (suc (suc (suc (suc zero)))))))))) h = refl
+figure_at (suc (suc (suc (suc (suc (suc (suc (suc (suc (suc (suc zero))))))))))) h = refl
+figure_at (suc (suc (suc (suc (suc (suc (suc (suc (suc (suc (suc (suc zero)))))))))))) h = refl
+figure_at (suc (suc (suc (suc (suc (suc (suc (suc (suc (suc (suc (suc (suc zero))))))))))))) h = refl
+figure_at (suc (suc (suc (suc (suc (suc (suc (suc (suc (suc (suc (suc (suc (suc zero)))))))))))))) h = refl
+figure_at (suc (suc (suc (suc (suc (suc (suc (suc (suc (suc (suc (suc (suc (suc (suc zero))))))))))))))) h = refl
+figure_at (suc (suc (suc (suc (suc (suc (suc (suc (suc (suc (suc (suc (suc (suc (suc (suc n)))))))))))))))) h = absurd (omega arith)
 
 -- pairs: how many octets they have, and one more behind the first i
 pub pairs_length : (before octets : List ℕ) → length (pairs before octets) ≡ length octets * (length before + 2)
@@ -69,10 +90,3 @@ unfolding pairs pair_of
 pairs_room before [] i h = absurd (omega arith)
 pairs_room before (octet ∷ xs) zero h = simp length-append (omega arith)
 pairs_room before (octet ∷ xs) (suc i) h = simp length-append (omega (arith, pairs_room before xs i (omega arith)))
-
--- whether so many of a width fit
-pub too_many : (room width many : ℕ) → 0 < width → room / width < many → room < many * width
-too_many room width many w h = omega (arith, digits_lt {q = room / width} {r = room % width} h (mod-lt room w), mod-add-div' room width)
-
-pub not_too_many : (room width many : ℕ) → many ≤ room / width → many * width ≤ room
-not_too_many room width many h = omega (arith, mul-le-mul_right width h, mod-add-div' room width)

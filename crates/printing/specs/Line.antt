@@ -70,8 +70,3 @@ pub record PutAt (under : List ℕ) (at : ℕ) (part : List ℕ) (to : ℕ) (lef
   pub ends : to ≡ at + length part
   pub fits : to ≤ length under
   pub stands : left ≡ over under at part
-
--- `PutShort most under at part to left`: and the part has so many octets at most
-pub record PutShort (most : ℕ) (under : List ℕ) (at : ℕ) (part : List ℕ) (to : ℕ) (left : List ℕ) : Type 0 where
-  pub put : PutAt under at part to left
-  pub short : length part ≤ most

@@ -7,8 +7,8 @@ ghost use Rattle.card.specs.State.{card_at_power_on};
 ghost use Rattle.turns.specs.Printed.{last_turn, head_turn, gap_turn, run_turn};
 ghost use Rattle.turns.specs.Turned.{left_by, Taken, Turned};
 
-use card::Card;
-use deeds::Order;
+use card::{Card, Gone};
+use frame::Judged;
 use input::{Head, Run};
 
 // What a turn leaves: how many octets its text has, the card after it, whether a run may follow.
@@ -54,26 +54,27 @@ pub fn start(out: &mut [u8], read: &[u8]) -> Left
 {
     let card = Card::power_on();
     if out.len() < Left::ROOM {
-        return refused(card);
-    }
-    match input::judge_head(read) {
-        Head::Version => said(out, b"version\n", card),
-        Head::Cut => said(out, b"cut\n", card),
-        Head::Image => said(out, b"image\n", card),
-        Head::Whole => Left {
-            count: 0,
-            card,
-            more: true,
-        },
+        refused(card)
+    } else {
+        match input::judge_head(read) {
+            Head::Version => said(out, b"version\n", card),
+            Head::Cut => said(out, b"cut\n", card),
+            Head::Image => said(out, b"image\n", card),
+            Head::Whole => Left {
+                count: 0,
+                card,
+                more: true,
+            },
+        }
     }
 }
 
 // The line of a gap: the reply stands in the first octets of its buffer.
-fn line(out: &mut [u8], number: u64, res: u8, order: Order, count: u16, buffer: &[u8]) -> usize
-    ensures { Lined out.old (line_of number res order (take count buffer.now)) result out.new }
+fn line(out: &mut [u8], number: u64, gone: Gone, buffer: &[u8]) -> usize
+    ensures { Lined out.old (line_of number gone.number gone.order (take gone.length buffer.now)) result out.new }
 {
-    let reply = octets::part(buffer, 0, count as usize);
-    printing::line(out, number, res, order, reply)
+    let reply = octets::part(buffer, 0, gone.length as usize);
+    printing::line(out, number, gone.number, gone.order, reply)
 }
 
 // A gap and its line.
@@ -81,14 +82,11 @@ fn answer(out: &mut [u8], card: Card, image: &[u8], clock: [u8; 7], number: u64)
     requires { 1024 ≤ length out.old }
     ensures { Taken out.old (gap_turn card image.now clock number) result out.new }
 {
-    let mut buffer = [0u8; 261];
+    let mut buffer = [0u8; Judged::LONGEST];
     let gone = card.gap(image, clock, &mut buffer);
-    let order = gone.order;
-    let after = gone.card;
-    let count = line(out, number, gone.number, order, gone.length, &buffer);
     Left {
-        count,
-        card: after,
+        count: line(out, number, gone, &buffer),
+        card: gone.card,
         more: true,
     }
 }
@@ -106,17 +104,15 @@ pub fn turn(
     ensures { Turned out.old card (run_turn card image.now clock number run.now) result out.new }
 {
     if out.len() < Left::ROOM {
-        return refused(card);
-    }
-    match input::judge_run(run) {
-        Run::End => said(out, b"", card),
-        Run::Cut => said(out, b"cut\n", card),
-        Run::Whole => answer(
-            out,
-            card.octets(octets::part(run, 2, run.len())),
-            image,
-            clock,
-            number,
-        ),
+        refused(card)
+    } else {
+        match input::judge_run(run) {
+            Run::End => said(out, b"", card),
+            Run::Cut => said(out, b"cut\n", card),
+            Run::Whole => {
+                let card = card.octets(octets::part(run, 2, run.len()));
+                answer(out, card, image, clock, number)
+            }
+        }
     }
 }

@@ -16,25 +16,25 @@ use Rattle.image.specs.Image.{sound_image}
 use Rattle.rules.specs.declared.Session.{Session}
 use Rattle.rules.specs.declared.Rule.{Rule}
 use Rattle.rules.specs.Decide.{decide}
-use Rattle.why.specs.declared.Why.{Why}
-use Rattle.why.specs.declared.Why.TheVariants.{ImageUnsound, MessageLength, Named}
-use Rattle.why.specs.Asking.{why_of, why_says}
+use Rattle.std.specs.Prelude.{Ok, Err}
+use Rattle.why.specs.declared.Unasked.TheVariants.{ImageUnsound, MessageLength}
+use Rattle.why.specs.Asking.{Why, why_of, why_says}
 use Rattle.why.proofs.Naming.{rule_at, stands}
 
 module _ (session : Session) (image clock m : List ℕ) where
-  pub unsound : sound_image image ≡ false → ImageUnsound ≡ why_of session image clock m
+  pub unsound : sound_image image ≡ false → Err ImageUnsound ≡ why_of session image clock m
   unfolding why_of
   unsound e = rw e
 
-  pub too_short : sound_image image ≡ true → length m < 6 → MessageLength ≡ why_of session image clock m
+  pub too_short : sound_image image ≡ true → length m < 6 → Err MessageLength ≡ why_of session image clock m
   unfolding why_of
   too_short e h = rw (e, lt-ltb (length m) 6 h)
 
-  pub too_long : sound_image image ≡ true → 252 < length m → MessageLength ≡ why_of session image clock m
+  pub too_long : sound_image image ≡ true → 252 < length m → Err MessageLength ≡ why_of session image clock m
   unfolding why_of
   too_long e h = rw (e, lt-ltb 252 (length m) h, or-true (ltb (length m) 6))
 
-  pub named_so : sound_image image ≡ true → 6 ≤ length m → length m ≤ 252 → Named (decide session image clock (request_of m)) ≡ why_of session image clock m
+  pub named_so : sound_image image ≡ true → 6 ≤ length m → length m ≤ 252 → Ok (decide session image clock (request_of m)) ≡ why_of session image clock m
   unfolding why_of
   named_so e least most = rw (e, le-ltb (length m) 6 least, le-ltb 252 (length m) most)
 
@@ -45,17 +45,16 @@ module _ (session : Session) (image clock m : List ℕ) where
     pub at_most_252 : length m ≤ 252
     pub decided : decide session image clock (request_of m) ≡ rule
 
-  pub named_only : (rule : Rule) → why_of session image clock m ≡ Named rule → NamedBy rule
+  pub named_only : (rule : Rule) → why_of session image clock m ≡ Ok rule → NamedBy rule
   unfolding why_of
   named_only rule = by_tests (sound_image image) (ltb (length m) 6) (ltb 252 (length m)) refl refl refl
     where
       rule_in : Why → Rule
-      rule_in ImageUnsound = rule
-      rule_in MessageLength = rule
-      rule_in (Named found) = found
+      rule_in (Err unasked) = rule
+      rule_in (Ok found) = found
 
       by_tests : (s l k : Bool) → sound_image image ≡ s → ltb (length m) 6 ≡ l → ltb 252 (length m) ≡ k
-          → (when not s then ImageUnsound else when l || k then MessageLength else Named (decide session image clock (request_of m))) ≡ Named rule → NamedBy rule
+          → ◌≡◌ {A = Why} (when not s then Err ImageUnsound else when l || k then Err MessageLength else Ok (decide session image clock (request_of m))) (Ok rule) → NamedBy rule
       by_tests false l k e f g named = absurd (omega (arith, ap (λ w. (why_says w).number) named))
       by_tests true true k e f g named = absurd (omega (arith, ap (λ w. (why_says w).number) named))
       by_tests true false true e f g named = absurd (omega (arith, ap (λ w. (why_says w).number) named))
@@ -64,13 +63,13 @@ module _ (session : Session) (image clock m : List ℕ) where
 
 -- the answer of a number and values
 abbrev why_back : Answer → Why
-why_back a = when eqb a.number 1 then ImageUnsound else when eqb a.number 2 then MessageLength else Named (rule_at (get_or a.values 0 0))
+why_back a = when eqb a.number 1 then Err ImageUnsound else when eqb a.number 2 then Err MessageLength else Ok (rule_at (get_or a.values 0 0))
 
 -- number and values determine it
 pub answers_differ : {a b : Why} → why_says a ≡ why_says b → a ≡ b
 answers_differ = determined why_says why_back known
   where
     known : (a : Why) → why_back (why_says a) ≡ a
-    known ImageUnsound = refl
-    known MessageLength = refl
-    known (Named rule) = ap Named (stands rule)
+    known (Err ImageUnsound) = refl
+    known (Err MessageLength) = refl
+    known (Ok rule) = ap Ok (stands rule)

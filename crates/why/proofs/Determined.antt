@@ -7,8 +7,7 @@ use denote.Ref.{Bor}
 use Rattle.octets.proofs.Outcome.{OneResult, one_outcome}
 use Rattle.rules.specs.declared.Session.{Session}
 use Rattle.card.specs.declared.Card.{Card}
-use Rattle.why.specs.declared.Why.{Why}
-use Rattle.why.specs.Asking.{why_of}
+use Rattle.why.specs.Asking.{Why, why_of}
 use Rattle.why.proofs.ask.Reads as ask
 use Rattle.why.proofs.place.Reads as place
 use Rattle.why.proofs.line.Reads as line

@@ -1,11 +1,11 @@
 -- The rules stand in document 01's order, each at its own place and with its own word.
 -- Each rule is where its place says in a list of all; so what is computed over that list holds of every rule. Assumes nothing.
-use Prim.Native.Nat.{ℕ, zero, suc, ◌-◌, ◌*◌, ◌≤◌}
+use Prim.Native.Nat.{ℕ, zero, suc, ◌-◌, ◌≤◌}
 use mathlib.Core.Bool.{true, ◌&&◌}
-use mathlib.Core.List.{List, [], ◌∷◌, ◌++◌, map, flatten}
+use mathlib.Core.List.{List, [], ◌∷◌, map}
 use mathlib.Core.Path.{◌≡◌, refl, sym, ap, ◌∙◌}
 use lib.Dec.{eqb, leb}
-use lib.ListN.{length, get_or, take, drop, replicate}
+use lib.ListN.{get_or, drop}
 use borrow.Author.Tests.{leb-true}
 use Rattle.octets.specs.Choice.{when◌then◌else◌}
 use Rattle.octets.specs.Numbers.{low_first}
@@ -86,19 +86,3 @@ module _ (text : Rule → List ℕ) where
 pub words_differ : {a b : Rule} → word_of a ≡ word_of b → a ≡ b
 unfolding low_first
 words_differ = texts_differ word_of refl refl
-
--- the words as the code has them: each with blanks behind it up to thirteen letters, and how many letters count
-abbrev pub letters : List ℕ
-letters = map (λ r. length (word_of r)) every_rule
-
-abbrev pub words : List ℕ
-words = flatten (map (λ r. word_of r ++ replicate (13 - length (word_of r)) 32) every_rule)
-
-pub word_there : (rule : Rule) → take (get_or letters (place_of rule - 1) 0) (drop ((place_of rule - 1) * 13) words) ≡ word_of rule
-unfolding flatten
-word_there = for_each (λ r. take (get_or letters (place_of r - 1) 0) (drop ((place_of r - 1) * 13) words)) word_of refl refl
-
--- no word has more letters
-pub letters_few : (rule : Rule) → get_or letters (place_of rule - 1) 0 ≤ 13
-letters_few rule =
-    leb-true (get_or letters (place_of rule - 1) 0) 13 (for_each (λ r. leb (get_or letters (place_of r - 1) 0) 13) (λ r. true) refl refl rule)

@@ -1,6 +1,6 @@
 -- The rule that is named holds and no earlier one does, each as document 01 words it; and the first to hold is named.
 -- Each test of the card's definition tells whether its rule holds (`told`), made of what its parts tell; the rest is the law of the first that applies. Assumes nothing.
-use Rattle.std.specs.Prelude.{Option, Some, None}
+use Rattle.std.specs.Prelude.{Option, Some, None, Ok}
 use Prim.Native.Nat.{ℕ, ◌+◌, ◌≤◌, ◌<◌}
 use mathlib.Core.Bool.{Bool, true, false, not, ◌&&◌, ◌||◌, false≢true}
 use mathlib.Core.List.{List, [], ◌∷◌}
@@ -39,10 +39,9 @@ use Rattle.rules.specs.declared.Rule.{Rule}
 use Rattle.rules.specs.declared.Rule.TheVariants.{Marked, UnknownType, NoSession, UnknownPoint, OtherSession, Shape, Address, Objects, ReadingLabel, ReadingRange, NoReading, EventLabel, EventRange, NoEvent, ClockUnset, NoDates, TimeLabel, WrongPassword, Accepted}
 use Rattle.rules.specs.Decide.{listed, is_closed, is_other, shaped, addressed_as, addressed, labels_valid, first_after_last, span_of, none_in, decide}
 use Rattle.rules.proofs.Decided.{applies, all_rules, none_before, holds_of}
-use Rattle.why.specs.declared.Why.TheVariants.{Named}
 use Rattle.why.specs.Naming.{place_of}
 use Rattle.why.specs.InImage.{is_opened_by}
-use Rattle.why.specs.Stated.{Some, type_in, structure_in, cause_in, point_in, record_in, ShapeAs, RecordAs, AsksReadings, ObjectsOut, LabelNotValid, FirstAfterLast, span_in, password_in, Holds, FirstToHold, NamedHolds, FirstIsNamed}
+use Rattle.why.specs.Stated.{Some as SomeOf, type_in, structure_in, cause_in, point_in, record_in, ShapeAs, RecordAs, AsksReadings, ObjectsOut, LabelNotValid, FirstAfterLast, span_in, password_in, Holds, FirstToHold, NamedHolds, FirstIsNamed}
 use Rattle.why.proofs.Naming.{in_places, declared_place, places_differ}
 use Rattle.why.proofs.Asking.{named_so, named_only}
 use Rattle.why.proofs.InImage.{point_there, password_there, dates_there}
@@ -53,7 +52,7 @@ abbrev apart : List Row → Bool
 apart [] = true
 apart (r ∷ rs) = not (listed (row_in rs r.type_id)) && apart rs
 
-some_so : {P Q : Row → Type 0} → ((w : Row) → P w → Q w) → (rows : List Row) → Some P rows → Some Q rows
+some_so : {P Q : Row → Type 0} → ((w : Row) → P w → Q w) → (rows : List Row) → SomeOf P rows → SomeOf Q rows
 some_so f [] h = h
 some_so f (w ∷ ws) (inl p) = inl (f w p)
 some_so f (w ∷ ws) (inr later) = inr (some_so f ws later)
@@ -64,11 +63,11 @@ later_one f (inl p) = absurd (f p)
 later_one f (inr q) = q
 
 module _ (type : ℕ) where
-  listed_told : (rows : List Row) → Tells (Some (λ (w : Row). type ≡ w.type_id) rows) (listed (row_in rows type))
+  listed_told : (rows : List Row) → Tells (SomeOf (λ (w : Row). type ≡ w.type_id) rows) (listed (row_in rows type))
   unfolding row_in
   listed_told [] = record { yes = λ e. absurd (false≢true e); only = λ h. absurd h }
   listed_told (r ∷ rs) =
-      either (λ (found : Option Row). Tells (Some (λ (w : Row). type ≡ w.type_id) (r ∷ rs)) (listed found)) (eqb r.type_id type)
+      either (λ (found : Option Row). Tells (SomeOf (λ (w : Row). type ≡ w.type_id) (r ∷ rs)) (listed found)) (eqb r.type_id type)
       (λ e. record { yes = λ t. inl (sym (eqb-true r.type_id type e)); only = λ one. refl })
       (λ e. in_words inr (later_one (λ f. eqb-false r.type_id type e (sym f))) (listed_told rs))
 
@@ -76,16 +75,16 @@ module _ (type : ℕ) where
     abbrev OfType : Row → Type 0
     OfType w = (type ≡ w.type_id) × Q w
 
-    found_told : (rows : List Row) → apart rows ≡ true → Tells (Some OfType rows) (g (row_in rows type))
+    found_told : (rows : List Row) → apart rows ≡ true → Tells (SomeOf OfType rows) (g (row_in rows type))
     unfolding row_in
     found_told [] a = record { yes = λ e. absurd (not_both nothing e); only = λ h. absurd h }
     found_told (r ∷ rs) a =
-        either (λ (found : Option Row). Tells (Some OfType (r ∷ rs)) (g found)) (eqb r.type_id type)
+        either (λ (found : Option Row). Tells (SomeOf OfType (r ∷ rs)) (g found)) (eqb r.type_id type)
         (λ e. in_words (λ q. inl (sym (eqb-true r.type_id type e), q)) (here (eqb-true r.type_id type e)) (each r))
         (λ e. in_words inr (later_one (λ o. eqb-false r.type_id type e (sym o.0))) (found_told rs (and_right (not (listed (row_in rs r.type_id))) _ a)))
       where
         -- no later one has that type
-        here : r.type_id ≡ type → Some OfType (r ∷ rs) → Q r
+        here : r.type_id ≡ type → SomeOf OfType (r ∷ rs) → Q r
         here e (inl o) = o.1
         here e (inr later) =
             absurd
@@ -280,4 +279,4 @@ first_is_named session image clock m rule sound least most first =
     let second = named_holds session image clock m found (sym named) in
     let after : place_of rule < place_of found → ⊥ = not_before session image clock m rule found first second in
     let before : place_of found < place_of rule → ⊥ = not_before session image clock m found rule second first in
-    sym named ∙ ap Named (places_differ (omega (arith, after, before)))
+    sym named ∙ ap Ok (places_differ (omega (arith, after, before)))

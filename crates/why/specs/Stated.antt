@@ -1,7 +1,7 @@
 -- Document 01's rules for a message, "First that applies", each as the paper words it and by itself: what it says of a session, an image, a clock and a message's octets,
 -- whatever the other rules say. Nothing here is taken from the definition by which the card finds the first rule (`rules/specs/Decide`). `P ⊎ Q` says: P or Q; `P → ⊥`: not P.
 -- Octets that a message does not have count as 0. Assumes nothing.
-use Rattle.std.specs.Prelude.{ℕ, ◌+◌, ◌≤◌, ◌<◌, true, false, List, [], ◌∷◌, ◌⊎◌, ◌≡◌, length, get_or}
+use Rattle.std.specs.Prelude.{ℕ, ◌+◌, ◌≤◌, ◌<◌, true, false, List, [], ◌∷◌, ◌⊎◌, ◌≡◌, length, get_or, Ok}
 use Rattle.octets.specs.Bits.{bits◌to◌of◌}
 use Rattle.octets.specs.Numbers.{low_first}
 use Rattle.label.specs.Label.{instant, valid_a, valid_b, before_a, label_a_at, label_b_at}
@@ -20,7 +20,6 @@ use Rattle.rules.specs.declared.Session.{Session}
 use Rattle.rules.specs.declared.Session.TheVariants.{Closed, Open}
 use Rattle.rules.specs.declared.Rule.{Rule}
 use Rattle.rules.specs.declared.Rule.TheVariants.{Marked, UnknownType, NoSession, UnknownPoint, OtherSession, Shape, Address, Objects, ReadingLabel, ReadingRange, NoReading, EventLabel, EventRange, NoEvent, ClockUnset, NoDates, TimeLabel, WrongPassword, Accepted}
-use Rattle.why.specs.declared.Why.TheVariants.{Named}
 use Rattle.why.specs.Naming.{place_of}
 use Rattle.why.specs.InImage.{is_opened_by}
 use Rattle.why.specs.Asking.{why_of}
@@ -129,9 +128,9 @@ module _ (session : Session) (image clock m : List ℕ) where
 
 -- so it is of every rule that is named; and where neither refusal applies, the first to hold is named
 abbrev pub NamedHolds : Type 0
-NamedHolds = (session : Session) (image clock m : List ℕ) (rule : Rule) → why_of session image clock m ≡ Named rule → FirstToHold session image clock m rule
+NamedHolds = (session : Session) (image clock m : List ℕ) (rule : Rule) → why_of session image clock m ≡ Ok rule → FirstToHold session image clock m rule
 
 abbrev pub FirstIsNamed : Type 0
 FirstIsNamed =
     (session : Session) (image clock m : List ℕ) (rule : Rule) → sound_image image ≡ true → 6 ≤ length m → length m ≤ 252
-    → FirstToHold session image clock m rule → why_of session image clock m ≡ Named rule
+    → FirstToHold session image clock m rule → why_of session image clock m ≡ Ok rule

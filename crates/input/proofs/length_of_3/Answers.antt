@@ -7,4 +7,4 @@ use Rattle.input.proofs.length_of_3.Goals as goal
 
 pub returns : goal.returns
 unfolding length_of3
-returns c = c.high_first_4.ensures ∙ rw (c.octet_at.ensures, c.octet_at-2.ensures, c.octet_at-3.ensures) (high_zero _ _ _)
+returns c = c.from_high_first.ensures ∙ rw (c.octet_at.ensures, c.octet_at-2.ensures, c.octet_at-3.ensures) (high_zero _ _ _)

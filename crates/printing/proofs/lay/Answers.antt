@@ -6,12 +6,12 @@ use Rattle.printing.proofs.lay.Goals as goal
 pub put_line-requires : goal.put_line-requires
 put_line-requires c =
     let a = c.args in
-    room_whole a.out.now a.before.now a.octets.now c.part-head.ensures c.fits.ensures c.if-fits.true
+    room_whole a.out.now a.head.now a.before.now a.octets.now c.fits.ensures c.if-fits.true
 
 pub returns-then-fits : goal.returns-then-fits
-returns-then-fits c = rw c.part-head.ensures at (lined_whole _ _ c.put_line.ensures)
+returns-then-fits c = lined_whole _ _ c.put_line.ensures
 
-pub returns : goal.returns
-returns c =
+pub returns-else-fits : goal.returns-else-fits
+returns-else-fits c =
     let a = c.args in
-    lined_none a.out.now a.before.now a.octets.now c.part-head.ensures c.fits.ensures c.if-fits.false
+    lined_none a.out.now a.head.now a.before.now a.octets.now c.fits.ensures c.if-fits.false

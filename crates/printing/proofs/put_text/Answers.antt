@@ -6,5 +6,5 @@ use Rattle.printing.proofs.put_text.Goals as goal
 pub returns-then-put : goal.returns-then-put
 returns-then-put c = put_lined _ _ c.put.ensures c.if-put.true
 
-pub returns : goal.returns
-returns c = unput_lined _ _ c.put.ensures c.if-put.false
+pub returns-else-put : goal.returns-else-put
+returns-else-put c = unput_lined _ _ c.put.ensures c.if-put.false

@@ -1,7 +1,8 @@
--- `time_column` writes the octets of an order between two spaces.
--- Part behind part. Assumes nothing.
-use Rattle.printing.proofs.Lines.{short_behind}
+-- `time_column` answers the octets of an order.
+-- By the order. Assumes nothing.
+use Rattle.std.proofs.Common.{[], ◌∷◌, arith}
+use Rattle.octets.proofs.Keeping.{added_more}
 use Rattle.printing.proofs.time_column.Goals as goal
 
-pub returns : goal.returns
-returns c = short_behind (short_behind c.put_space-end.ensures c.put_time-end.ensures) c.put_space.ensures
+pub returns-in-NoOrder : goal.returns-in-NoOrder
+returns-in-NoOrder c = rw c.in-NoOrder.is (cc (added_more [] (45 ∷ []) (omega arith)))
