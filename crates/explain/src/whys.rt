@@ -9,7 +9,7 @@ use card::Card;
 use label::{LabelA, LabelB};
 use message::{Request, Row};
 use rules::{Rule, Session};
-use why::Why;
+use why::Unasked;
 
 // ---- what was found ----
 
@@ -146,17 +146,17 @@ impl Case<'_> {
 pub(crate) fn explain(voice: Voice, card: Card, image: &[u8], clock: [u8; 7], message: &[u8]) {
     let why = why::ask(card, image, clock, message);
     let below = voice.indented();
-    voice.pass_on(lines::first(&why::line(why).octets));
+    voice.pass_on(lines::first(why::line(why).as_slice()));
     below.new_line();
     match why {
-        Why::ImageUnsound => {
+        Err(Unasked::ImageUnsound) => {
             words::unasked(below);
             if let Some(fault) = faults::of_image(image) {
                 images::fault(below, fault);
             }
         }
-        Why::MessageLength => words::message_size(below, message.len()),
-        Why::Named(rule) => Case {
+        Err(Unasked::MessageLength) => words::message_size(below, message.len()),
+        Ok(rule) => Case {
             session: card.link.session,
             image,
             clock,
