@@ -9,7 +9,7 @@ use card::Card;
 use deeds::Pending;
 use link::Link;
 use message::Request as Asked;
-use names::Which;
+use names::Which as Book;
 use profile::{Character, Profile};
 use rules::{Rule, Session};
 
@@ -48,8 +48,8 @@ impl Bench {
             Word::Image => self.lend_image(voice, given),
             Word::Clock => self.lend_clock(voice, octets),
             Word::Buffer => self.lend_buffer(voice, request.number),
-            Word::Book => self.books.lend(voice, Which::Chosen, given),
-            Word::Italian => self.books.lend(voice, Which::Italian, given),
+            Word::Book => self.books.lend(voice, Book::Chosen, given),
+            Word::Italian => self.books.lend(voice, Book::Italian, given),
             Word::PowerOn => self.power_on(voice),
             Word::Profile => self.set_profile(voice, request.number),
             Word::Session => self.set_session(voice, request.number),

@@ -2,7 +2,7 @@
 use crate::held::Held;
 use crate::voice::Voice;
 use crate::words;
-use names::{BookFault, Code, Which};
+use names::{BookFault, Code, Which as Book};
 
 // The two books, and whether one has been given.
 #[derive(Drop)]
@@ -29,13 +29,13 @@ impl Books {
     }
 
     // A book is lent, sound or not.
-    pub(crate) fn lend(&mut self, voice: Voice, which: Which, book: &Held) {
+    pub(crate) fn lend(&mut self, voice: Voice, which: Book, book: &Held) {
         words::book(voice, which, book.octets().len());
         checked(voice, names::check(book.octets()));
         self.are_given = true;
         match which {
-            Which::Chosen => self.chosen = *book,
-            Which::Italian => self.italian = *book,
+            Book::Chosen => self.chosen = *book,
+            Book::Italian => self.italian = *book,
         }
     }
 

@@ -33,7 +33,7 @@ pub(crate) fn acknowledged(image: &[u8]) -> Reply {
 
 // C A A.
 fn addressed(service: u8, last: u8, image: &[u8]) -> [u8; 3] {
-    let [low, high] = link_of(image).0.low_octets();
+    let [low, high]: [u8; 2] = link_of(image).0.low_octets();
     [counted(service, last), low, high]
 }
 

@@ -11,7 +11,7 @@ use faults::{ImageRule, LabelFault};
 use fields::Identity;
 use frame::{Control, Service};
 use message::{Addresses, ObjectRange, Request, Row};
-use names::{BookFault, Code, Fault, Which};
+use names::{BookFault, Code, Fault, Which as Book};
 use profile::{Character, Profile};
 use rules::{Rule, Session};
 use std::cmp::Ordering;
@@ -464,10 +464,10 @@ impl fmt::Display for Missing {
 
 // ---- books of names ----
 
-pub(crate) fn book(voice: Voice, book: Which, many: usize) {
+pub(crate) fn book(voice: Voice, book: Book, many: usize) {
     match book {
-        Which::Chosen => say!(voice, "chosen book of {many} octets, "),
-        Which::Italian => say!(voice, "Italian book of {many} octets, "),
+        Book::Chosen => say!(voice, "chosen book of {many} octets, "),
+        Book::Italian => say!(voice, "Italian book of {many} octets, "),
     }
 }
 
@@ -495,20 +495,20 @@ pub(crate) fn refusal(voice: Voice, fault: Fault) {
 }
 
 // The name that a book has in an entry.
-pub(crate) fn named(voice: Voice, book: Which, entry: usize, name: &[u8]) {
+pub(crate) fn named(voice: Voice, book: Book, entry: usize, name: &[u8]) {
     voice.say(": ");
     voice.pass_on(name);
     match book {
-        Which::Chosen => say!(voice, " (chosen book, entry {entry})"),
-        Which::Italian => say!(voice, " (Italian book, entry {entry})"),
+        Book::Chosen => say!(voice, " (chosen book, entry {entry})"),
+        Book::Italian => say!(voice, " (Italian book, entry {entry})"),
     }
 }
 
 // Before why a book is refused in which a name was looked for.
-pub(crate) fn unreadable(voice: Voice, book: Which) {
+pub(crate) fn unreadable(voice: Voice, book: Book) {
     voice.say(match book {
-        Which::Chosen => ": the chosen book is ",
-        Which::Italian => ": the Italian book is ",
+        Book::Chosen => ": the chosen book is ",
+        Book::Italian => ": the Italian book is ",
     })
 }
 

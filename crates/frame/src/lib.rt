@@ -11,7 +11,7 @@ ghost use Rattle.frame.specs.Controls.{offered, control_of};
 ghost use Rattle.frame.specs.Writing.{reply_octets, plain};
 
 use address::LinkAddress;
-use octets::Kept;
+use octets::{Kept, Number};
 
 // Why a run is no sound frame: empty, over 261 octets, a wrong parity bit, not the form of a frame, a wrong checksum. Octets have no parity bit: `judge`
 // finds none wrong.
@@ -183,7 +183,7 @@ fn link_at(run: &[u8], at: usize) -> LinkAddress
     requires { at + 2 ≤ length run.now }
     ensures { result.0 ≡ low_first (slice_index run.now at ∷ slice_index run.now (at + 1) ∷ []) }
 {
-    LinkAddress(octets::low_first_2(run[at], run[at + 1]))
+    LinkAddress(u16::from_low_first([run[at], run[at + 1]]))
 }
 
 // What a run is: a sound frame, or why it is none.
@@ -298,7 +298,7 @@ pub fn write(buffer: &mut [u8], reply: Reply) -> Result<u16, WriteError>
                 buffer,
                 control,
                 link,
-                octets::part(&user.octets, 0, user.length as usize),
+                user.as_slice(),
             ))
         }
         Control::Ack | Control::Nack | Control::NothingToGive | Control::Status => {
@@ -311,7 +311,7 @@ pub fn write(buffer: &mut [u8], reply: Reply) -> Result<u16, WriteError>
 fn control_and_address(control: u8, address: u16) -> [u8; 3]
     ensures { result ≡ body_of sapr (fixed control address) }
 {
-    let a = octets::low_octets_2(address);
+    let a = address.low_octets();
     [control, a[0], a[1]]
 }
 

@@ -4,4 +4,4 @@ use Rattle.frame.proofs.Writing.{body_octets}
 use Rattle.frame.proofs.control_and_address.Goals as goal
 
 pub returns : goal.returns
-returns c = body_octets _ _ _ c.low_octets_2-a.ensures
+returns c = body_octets _ _ _ c.low_octets-a.ensures

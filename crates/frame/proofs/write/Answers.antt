@@ -12,7 +12,7 @@ returns-then-buffer-lt-LONGEST c = short_refused _ _ (search rules)
 pub returns-in-Data : goal.returns-in-Data
 unfolding octets_of
 returns-in-Data c =
-    reply_stands _ _ Data c.in-Data.is (search rules) (rw (c.octet-control.ensures, c.in-Data.is, c.part.ensures) at c.write_variable.ensures)
+    reply_stands _ _ Data c.in-Data.is (search rules) (rw (c.octet-control.ensures, c.in-Data.is, c.as_slice.ensures) at c.write_variable.ensures)
 
 pub returns-in-Ack : goal.returns-in-Ack
 unfolding octets_of
