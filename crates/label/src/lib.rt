@@ -195,6 +195,7 @@ impl LabelA {
     }
 
     // Its instant, where it is valid. A walk over records asks for both at once.
+    #[inline(always)]
     pub fn moment(self) -> Option<i64>
         ensures { result ≡ moment_of (valid_a self) self }
     {
@@ -268,6 +269,7 @@ impl LabelB {
     }
 
     // Its instant, which is that of its label a, where it is valid.
+    #[inline(always)]
     pub fn moment(self) -> Option<i64>
         ensures { result ≡ moment_of (valid_b self) self.a }
     {
