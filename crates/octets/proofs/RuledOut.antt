@@ -12,7 +12,7 @@ use Rattle.octets.specs.Calls.{fits_at, added}
 use Rattle.octets.specs.declared.Kept.{Kept}
 use Rattle.octets.specs.Keeping.{octets_of, kept_of}
 use Rattle.octets.proofs.Outcome.{RuledOut, RuledOutWith, Place, lent, lent_mut, never}
-use Rattle.octets.proofs.Number.{u16_low_first_swapped, u16_low_first_base, u16_high_first_swapped, u16_high_first_same, u32_low_first_halves, u32_low_first_base, u32_high_first_low, u32_high_first_words, u16_octets_base, u16_octets_same, u32_octets_third, u32_octets_fourth}
+use Rattle.octets.proofs.OctetsOfNumbers.{u16_low_first_swapped, u16_low_first_base, u16_high_first_swapped, u16_high_first_same, u32_low_first_halves, u32_low_first_base, u32_high_first_low, u32_high_first_words, u16_octets_base, u16_octets_same, u32_octets_third, u32_octets_fourth}
 use Rattle.octets.proofs.low_first_2.Reads as low_first_2
 use Rattle.octets.proofs.high_first_2.Reads as high_first_2
 use Rattle.octets.proofs.low_first_4.Reads as low_first_4
