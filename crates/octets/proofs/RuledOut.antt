@@ -4,7 +4,6 @@ use Rattle.std.proofs.Common.{◌≡◌, ℕ, ◌+◌, ◌-◌, ◌*◌, ◌/◌
 use contract.Lifetimes.{Lfts}
 use lib.ListN.{get_or-eq_default}
 use borrow.Author.Tests.{lt-leb}
-use Rattle.octets.specs.Numbers.{low_first, high_first, low_octets}
 use Rattle.octets.specs.Values.{signed as signed_of, unsigned as unsigned_of}
 use Rattle.octets.specs.Sum.{octet_sum, checksum as checksum_of}
 use Rattle.octets.specs.Over.{over}
@@ -32,56 +31,56 @@ use Rattle.octets.proofs.Kept.with.Reads as kept_with
 module _ (κs : Lfts 0) where
   -- the octets swapped, whenever they differ
   low_first_2_swapped : (a b : ℕ) → (a ≡ b → ⊥) → RuledOut (low_first_2.Post κs) (a, (b, tt)) (b + 256 * a)
-  low_first_2_swapped a b n s p = u16_low_first_swapped a b n ([], tt) p
+  low_first_2_swapped a b n s p = u16_low_first_swapped κs a b n ([], tt) p
 
   -- the second octet counted by 255, whenever it is not 0
   low_first_2_base : (a b : ℕ) → (b ≡ 0 → ⊥) → RuledOut (low_first_2.Post κs) (a, (b, tt)) (a + 255 * b)
-  low_first_2_base a b n s p = u16_low_first_base a b n ([], tt) p
+  low_first_2_base a b n s p = u16_low_first_base κs a b n ([], tt) p
 
   -- the octets read low octet first, whenever they differ
   high_first_2_swapped : (a b : ℕ) → (a ≡ b → ⊥) → RuledOut (high_first_2.Post κs) (a, (b, tt)) (a + 256 * b)
-  high_first_2_swapped a b n s p = u16_high_first_swapped a b n ([], tt) p
+  high_first_2_swapped a b n s p = u16_high_first_swapped κs a b n ([], tt) p
 
   -- the second octet read twice, whenever it differs from the first
   high_first_2_same : (a b : ℕ) → (a ≡ b → ⊥) → RuledOut (high_first_2.Post κs) (a, (b, tt)) (b + 256 * b)
-  high_first_2_same a b n s p = u16_high_first_same a b n ([], tt) p
+  high_first_2_same a b n s p = u16_high_first_same κs a b n ([], tt) p
 
   -- the halves swapped, whenever they differ
   low_first_4_halves : (a b c d : ℕ) → (a + 256 * b ≡ c + 256 * d → ⊥)
       → RuledOut (low_first_4.Post κs) (a, (b, (c, (d, tt)))) (c + 256 * d + 65536 * (a + 256 * b))
-  low_first_4_halves a b c d n s p = u32_low_first_halves a b c d n ([], tt) p
+  low_first_4_halves a b c d n s p = u32_low_first_halves κs a b c d n ([], tt) p
 
   -- the upper half counted by 65,535, whenever it is not 0
   low_first_4_base : (a b c d : ℕ) → (c + 256 * d ≡ 0 → ⊥)
       → RuledOut (low_first_4.Post κs) (a, (b, (c, (d, tt)))) (a + 256 * b + 65535 * (c + 256 * d))
-  low_first_4_base a b c d n s p = u32_low_first_base a b c d n ([], tt) p
+  low_first_4_base a b c d n s p = u32_low_first_base κs a b c d n ([], tt) p
 
   -- the octets read low octet first, whenever the outer two differ
   high_first_4_low : (a b c d : ℕ) → b < 256 → c < 256 → (a ≡ d → ⊥)
       → RuledOut (high_first_4.Post κs) (a, (b, (c, (d, tt)))) (a + 256 * (b + 256 * (c + 256 * d)))
-  high_first_4_low a b c d octet octet' n s p = u32_high_first_low a b c d octet octet' n ([], tt) p
+  high_first_4_low a b c d octet octet' n s p = u32_high_first_low κs a b c d octet octet' n ([], tt) p
 
   -- the octets of each half swapped, whenever the first two differ
   high_first_4_words : (a b c d : ℕ) → c < 256 → d < 256 → (a ≡ b → ⊥)
       → RuledOut (high_first_4.Post κs) (a, (b, (c, (d, tt)))) (c + 256 * (d + 256 * (a + 256 * b)))
-  high_first_4_words a b c d octet octet' n s p = u32_high_first_words a b c d octet octet' n ([], tt) p
+  high_first_4_words a b c d octet octet' n s p = u32_high_first_words κs a b c d octet octet' n ([], tt) p
 
   -- the remainder by 255 as the low octet, whenever it differs
   low_octets_2_base : (n : ℕ) → (n % 255 ≡ n % 256 → ⊥) → RuledOut (low_octets_2.Post κs) (n, tt) (n % 255 ∷ n / 256 % 256 ∷ [])
-  low_octets_2_base n differ s p = u16_octets_base n differ s p
+  low_octets_2_base n differ s p = u16_octets_base κs n differ s p
 
   -- the low octet twice, whenever the high octet differs
   low_octets_2_same : (n : ℕ) → (n % 256 ≡ n / 256 % 256 → ⊥) → RuledOut (low_octets_2.Post κs) (n, tt) (n % 256 ∷ n % 256 ∷ [])
-  low_octets_2_same n differ s p = u16_octets_same n differ s p
+  low_octets_2_same n differ s p = u16_octets_same κs n differ s p
 
   -- the second octet again as the third, whatever the others, whenever the two differ
   low_octets_4_third : (n a b d : ℕ) → (n / 256 % 256 ≡ n / 256 / 256 % 256 → ⊥)
       → RuledOut (low_octets_4.Post κs) (n, tt) (a ∷ b ∷ n / 256 % 256 ∷ d ∷ [])
-  low_octets_4_third n a b d differ s p = u32_octets_third n a b d differ s p
+  low_octets_4_third n a b d differ s p = u32_octets_third κs n a b d differ s p
 
   -- no fourth octet, whatever the others, of every number that has one
   low_octets_4_fourth : (n a b c : ℕ) → (0 ≡ n / 256 / 256 / 256 % 256 → ⊥) → RuledOut (low_octets_4.Post κs) (n, tt) (a ∷ b ∷ c ∷ 0 ∷ [])
-  low_octets_4_fourth n a b c there s p = u32_octets_fourth n a b c there s p
+  low_octets_4_fourth n a b c there s p = u32_octets_fourth κs n a b c there s p
 
   -- the lowest value taken for a positive one
   signed_border : RuledOut (signed.Post κs) (0x80000000, tt) (pos 0x80000000)
