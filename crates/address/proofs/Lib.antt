@@ -1,3 +1,3 @@
 pub mod Address
 mod Determined
-mod RuledOut
+mod Equality

@@ -4,15 +4,15 @@ ghost use Rattle.label.specs.Calendar.{leap, leap_day, month_length, days_to_yea
 
 // A month: its year's last two figures, and its number from January on.
 #[derive(Clone, Copy)]
-pub struct Month {
-    pub year: u8,
-    pub number: u8,
+pub(crate) struct Month {
+    pub(crate) year: u8,
+    pub(crate) number: u8,
     ghost there_is: { (year < 100) × (1 ≤ number) × (number ≤ 12) },
 }
 
 impl Month {
     // The month of a number, where there is one.
-    pub fn of(year: u8, number: u8) -> Option<Month>
+    pub(crate) fn of(year: u8, number: u8) -> Option<Month>
         ensures { MatchOption result
             (¬ ((year < 100) × (1 ≤ number) × (number ≤ 12)))
             (λ month. (month.year ≡ year) × (month.number ≡ number)) }
@@ -39,7 +39,7 @@ impl Month {
     }
 
     // By its turn a month has 31 days or 30. February alone has fewer: 28, and 29 in a leap year.
-    pub fn length(self) -> u8
+    pub(crate) fn length(self) -> u8
         ensures { result ≡ month_length (leap self.year) self.number }
     {
         if self.number == 2 {
@@ -50,7 +50,7 @@ impl Month {
     }
 
     // Whether a month has a day. No month has fewer than 28, so that most days need no length.
-    pub fn has_day(self, day: u8) -> bool
+    pub(crate) fn has_day(self, day: u8) -> bool
         ensures { result ≡ (leb 1 day && leb day (month_length (leap self.year) self.number)) }
     {
         1 <= day && (day <= 28 || day <= self.length())
@@ -71,7 +71,7 @@ impl Month {
     }
 
     // The days from 1 January 2000 to its first. A year has 365, and every fourth, from 2000 on, one more.
-    pub fn days_before(self) -> u32
+    pub(crate) fn days_before(self) -> u32
         ensures { result ≡ days_to_year self.year + days_of_months (leap self.year) (self.number - 1) }
     {
         let y = self.year as u32;

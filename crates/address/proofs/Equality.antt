@@ -1,4 +1,4 @@
--- What the public contracts of this crate, those of `==`, do not allow: two wrong outcomes or more of each.
+-- What `==` of two addresses does not allow: two wrong outcomes of each.
 -- By the test of the two numbers, for all addresses. Assumes nothing.
 use Rattle.std.proofs.Common.{◌≡◌, true, false, refl, Bor}
 use contract.Lifetimes.{Lfts}
