@@ -1,17 +1,17 @@
 -- What the parts of a call come to: octets and characters that come in one by one, an image put into its space, a gap that is lent a part of the buffer, and
 -- a step's text. By the laws of lists, and by whether a text fits. Assumes nothing.
-use Prim.Native.Nat.{ℕ, ◌+◌, ◌-◌, ◌≤◌, ◌<◌}
+use Prim.Native.Nat.{ℕ, ◌+◌, ◌-◌, ◌≤◌}
 use mathlib.Core.Bool.{Bool, true, false}
 use mathlib.Core.List.{List, [], ◌∷◌, ◌++◌, append_assoc}
 use mathlib.Core.Path.{◌≡◌, refl, sym, ap, ◌∙◌}
-use native.Mathlib.Numerals.{add-one}
 use native.Mathlib.Omega.{arith}
 use types.Run.{OneOf, miss}
 use denote.Enum.Declared.{tag_of}
 use borrow.Author.Tests.{le-leb}
 use lib.Dec.{eqb}
 use lib.ListN.{length, take, drop, get_or, length-append, length-drop, take-append-drop}
-use lib.Seq.{length-take-le, take_all, drop-cons, drop-append-le, drop-length}
+use lib.Seq.{length-take-le, take_all, drop-append-le}
+use Rattle.std.specs.List.{fold}
 use Rattle.octets.specs.Over.{laid_in}
 use Rattle.octets.specs.Calls.{fits_at}
 use Rattle.octets.proofs.Choice.{told}
@@ -26,34 +26,28 @@ use Rattle.input.specs.declared.Call.{Call}
 use Rattle.input.specs.declared.Call.TheVariants as call
 use Rattle.input.specs.Input.{characters_in, call_found}
 use Rattle.input.specs.contracts.Call.{the_type}
-use Rattle.input.proofs.Pairs.{characters_next, characters_end}
+use Rattle.input.proofs.Pairs.{pairs_in}
 use Rattle.printing.specs.Line.{gap_line, Lined}
 use Rattle.driving.specs.declared.Held.{Held}
 use Rattle.driving.specs.declared.Left.{Left}
 use Rattle.driving.specs.Driven.{Bench, Step, silent_step, line_step, with_card, with_buffer, after_call, call_step}
-use Rattle.driving.specs.Stepped.{bench_of, held_of, left_by, Writes, Stepped, silent_left, gone_line, is_image, ImageAfter}
+use Rattle.driving.specs.Stepped.{bench_of, held_of, left_by, Writes, Stepped, gone_line, is_image, ImageAfter}
 
--- one octet more comes in
-pub octets_next : (octets : List ℕ) (i : ℕ) (card next : Card) → i < length octets → next ≡ with_octet card (get_or octets i 0)
-    → with_octets next (drop (i + 1) octets) ≡ with_octets card (drop i octets)
+-- octets that come in one by one
+pub octets_fold : (card : Card) (octets : List ℕ) → fold with_octet card octets ≡ with_octets card octets
 unfolding with_characters
-octets_next octets i card next h e = rw (e, add-one, drop-cons octets i 0 h)
-
--- and none is left
-pub octets_end : (octets : List ℕ) (i : ℕ) (card : Card) → i ≡ length octets → card ≡ with_octets card (drop i octets)
-unfolding with_characters
-octets_end octets i card e = rw (e, drop-length octets)
+octets_fold card [] = refl
+octets_fold card (octet ∷ rest) = octets_fold (with_octet card octet) rest
 
 -- the same of pairs of an octet and its parity bit
-pub pairs_next : (pairs : List ℕ) (i : ℕ) (card next : Card) → i + 1 < length pairs
-    → next ≡ with_character Eleven card (record { octet = get_or pairs i 0; parity = eqb (get_or pairs (i + 1) 0) 1 })
-    → with_characters Eleven next (characters_in (drop (i + 2) pairs)) ≡ with_characters Eleven card (characters_in (drop i pairs))
-unfolding with_characters
-pairs_next pairs i card next h e = rw (e, characters_next pairs i h)
+abbrev pub with_pair : Card → List ℕ → Card
+with_pair card pair = with_character Eleven card (record { octet = get_or pair 0 0; parity = eqb (get_or pair 1 0) 1 })
 
-pub pairs_end : (pairs : List ℕ) (i : ℕ) (card : Card) → length pairs ≤ i + 1 → card ≡ with_characters Eleven card (characters_in (drop i pairs))
-unfolding with_characters
-pairs_end pairs i card h = rw (characters_end pairs i h)
+pub pairs_fold : (card : Card) (octets : List ℕ) → fold with_pair card (pairs_in octets) ≡ with_characters Eleven card (characters_in octets)
+unfolding with_characters characters_in pairs_in
+pairs_fold card [] = refl
+pairs_fold card (octet ∷ []) = refl
+pairs_fold card (octet ∷ bit ∷ rest) = pairs_fold (with_pair card (octet ∷ bit ∷ [])) rest
 
 -- all that stands behind an index
 pub rest_all : (at : ℕ) (octets : List ℕ) → take (length octets) (drop at octets) ≡ drop at octets
@@ -92,7 +86,7 @@ pub image_stays : (x : Call) (space : List ℕ) (had : ℕ) (image : List ℕ) �
 image_stays x space had image o = rw (no_image x o) (record { answers = refl; left_so = refl })
 
 -- a gap that is lent the first octets of a buffer leaves the rest of it
-pub gap_first : (o : Outcome) {gone : Gone} {left : List ℕ} (buffer : List ℕ) (room : ℕ) → room ≤ length buffer → length left ≡ length (take room buffer)
+gap_first : (o : Outcome) {gone : Gone} {left : List ℕ} (buffer : List ℕ) (room : ℕ) → room ≤ length buffer → length left ≡ length (take room buffer)
     → Gapped o (take room buffer) gone left → Gapped o buffer gone (left ++ drop room buffer)
 gap_first o buffer room h k g =
     let n = length o.reply in
@@ -107,11 +101,14 @@ gap_first o buffer room h k g =
           ∙ ap (drop n) (take-append-drop room buffer)));
     }
 
--- one that is lent all of it
-pub gap_all : {left : List ℕ} {gone : Gone} (card : Card) (image clock buffer : List ℕ) (room : ℕ) → length buffer ≤ room
-    → Gapped (gapped card image clock (length buffer)) buffer gone left
-    → Gapped (gapped card image clock (length (take room buffer))) buffer gone left
-gap_all card image clock buffer room h g = rw (take_all room buffer h) g
+-- and so one that is lent so many octets of it, or all that there are
+pub gap_lent : {left : List ℕ} {gone : Gone} (card : Card) (image clock buffer : List ℕ) (room most : ℕ) → most ≤ length buffer
+    → length (take room buffer) ≡ most → length left ≡ length (take most buffer)
+    → Gapped (gapped card image clock (length (take most buffer))) (take most buffer) gone left
+    → Gapped (gapped card image clock (length (take room buffer))) buffer gone (left ++ drop most buffer)
+gap_lent card image clock buffer room most few same k g =
+    let as_long : length (take most buffer) ≡ length (take room buffer) = length-take-le most buffer few ∙ sym same in
+    gap_first (gapped card image clock (length (take room buffer))) buffer most few k (rw as_long at g)
 
 -- a gap and its line
 pub gap_stepped : (o : Outcome) (buffer under : List ℕ) (held : Held) (image : List ℕ) {left out : List ℕ} {gone : Gone} {count : ℕ}
@@ -137,8 +134,8 @@ module _ (under : List ℕ) {r : Left} where
   unfolding bench_of held_of
   kept_stepped text held more image buffer p = (p, refl)
 
-  pub silent_stepped : (b : Bench) → r ≡ silent_left b.profile b.card b.clock b.room → Stepped under (silent_step b) r b.buffer under
-  unfolding silent_left held_of fits_at
+  pub silent_stepped : (b : Bench) → r ≡ left_by [] (record { profile = b.profile; card = b.card; clock = b.clock; room = b.room }) true → Stepped under (silent_step b) r b.buffer under
+  unfolding held_of fits_at
   silent_stepped b e =
       let fits = le-leb 0 (length under) (omega arith) in
       (rw fits (record { answers = e; left_so = refl }), refl)

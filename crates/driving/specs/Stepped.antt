@@ -1,11 +1,9 @@
 -- What the functions that do a call return, and what they leave of the image's space, the reply buffer and the buffer for the text.
 -- Assumes nothing.
-use Rattle.std.specs.Prelude.{ℕ, Bool, true, false, ◌&&◌, List, [], ◌≡◌, length}
+use Rattle.std.specs.Prelude.{ℕ, Bool, true, false, ◌&&◌, List, ◌≡◌, length}
 use Rattle.octets.specs.Choice.{when◌then◌else◌}
 use Rattle.octets.specs.Over.{laid_in, Does}
 use Rattle.octets.specs.Calls.{fits_at}
-use Rattle.profile.specs.declared.Profile.{Profile}
-use Rattle.card.specs.declared.Card.{Card}
 use Rattle.card.specs.declared.Gone.{Gone}
 use Rattle.input.specs.declared.Call.{Call}
 use Rattle.input.specs.declared.Call.TheVariants as call
@@ -33,10 +31,6 @@ Writes under text held more r left = Does (left_by (fitting under text) held mor
 -- `Stepped under s r buffer left`: so of the step `s`, with what it leaves of the reply buffer
 abbrev pub Stepped : List ℕ → Step → Left → List ℕ → List ℕ → Type 0
 Stepped under s r buffer left = Writes under s.text (held_of s.bench) s.more r left × (buffer ≡ s.bench.buffer)
-
--- no text, and another call may follow
-unfoldable pub silent_left : Profile → Card → List ℕ → ℕ → Left
-silent_left profile card clock room = left_by [] (record { profile = profile; card = card; clock = clock; room = room }) true
 
 -- the line of what a gap returned
 unfoldable pub gone_line : Gone → List ℕ → List ℕ

@@ -44,6 +44,7 @@ fn last(out: &mut [u8], text: &[u8], held: Held) -> Left
 }
 
 // No text, and another call may follow.
+#[tactic(auto, unfolding(crate::specs::Stepped::left_by))]
 fn silent(held: Held) -> Left
     ensures { result ≡ left_by [] held true }
 {
@@ -82,6 +83,7 @@ fn lent(card: Card, image: &[u8], clock: [u8; 7], buffer: &mut [u8], room: usize
 }
 
 // The line of a gap, with all of the buffer.
+#[tactic(auto, unfolding(crate::specs::Stepped::gone_line))]
 fn line(out: &mut [u8], gone: Gone, buffer: &[u8]) -> usize
     ensures { Lined out.old (gone_line gone buffer.now) result out.new }
 {
@@ -183,6 +185,7 @@ pub fn image_after(profile: Profile, space: &mut [u8], had: usize, call: &[u8]) 
 }
 
 // What is held at the start.
+#[tactic(auto, unfolding(crate::specs::Driven::at_start, crate::specs::Stepped::held_of))]
 pub fn start() -> Held
     ensures { result ≡ held_of at_start }
 {

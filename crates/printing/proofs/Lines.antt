@@ -8,6 +8,7 @@ use native.Mathlib.Omega.{arith}
 use borrow.Author.Tests.{le-leb, lt-leb, ltb-true, ltb-false}
 use lib.Dec.{ltb}
 use lib.ListN.{length, take, drop, get_or, length-append, length-take}
+use Rattle.std.specs.List.{fold}
 use Rattle.octets.specs.Over.{over}
 use Rattle.octets.specs.Calls.{fits_at, added}
 use Rattle.octets.specs.Keeping.{octets_of, kept_of}
@@ -179,14 +180,17 @@ gap_kept number count order time damaged =
       added_more ((((front ++ space) ++ middle) ++ space) ++ decimal damaged) space (simp length-append (omega arith)),
     )
 
--- a pair of the octets of an order behind those before it
-pub pair_kept : (octets : List ℕ) (i : ℕ) → i < length octets → length octets ≤ 10
-    → added (kept_of (pairs [] (take i octets))) (pair_of (get_or octets i 0)) ≡ kept_of (pairs [] (take (i + 1) octets))
-unfolding pair_of
-pair_kept octets i h few =
-    let more : pairs [] (take i octets) ++ pair_of (get_or octets i 0) ≡ pairs [] (take (i + 1) octets) = pairs_more [] octets i h in
-    let room : length (pairs [] (take i octets)) + 2 ≤ 252 = omega (arith, pairs_length [] (take i octets), length-take i octets) in
-    added_more (pairs [] (take i octets)) (pair_of (get_or octets i 0)) room ∙ ap kept_of more
+-- pair after pair of the octets of an order
+pairs_behind : (front octets : List ℕ) → length front + 2 * length octets ≤ 252
+    → fold (λ text octet. added text (pair_of octet)) (kept_of front) octets ≡ kept_of (front ++ pairs [] octets)
+unfolding pairs pair_of
+pairs_behind front [] room = rw append-nil
+pairs_behind front (octet ∷ rest) room =
+    rw (added_more front (pair_of octet) (omega arith))
+    (pairs_behind (front ++ pair_of octet) rest (simp length-append (omega arith)) ∙ ap kept_of (append_assoc front (pair_of octet) (pairs [] rest)))
+
+pub pairs_kept : (octets : List ℕ) → length octets ≤ 10 → fold (λ text octet. added text (pair_of octet)) (kept_of []) octets ≡ kept_of (pairs [] octets)
+pairs_kept octets few = pairs_behind [] octets (omega arith)
 
 -- a line from its head on
 pub run_line : (number result : ℕ) (order : Order) (reply head : List ℕ) → head ≡ octets_of (added (kept_of (beginning number result order)) (dash_for reply))

@@ -46,11 +46,9 @@ fn time_pairs(octets: &[u8]) -> Kept
     requires { length octets.now ≤ 10 }
     ensures { result ≡ kept_of (pairs [] octets.now) }
 {
-    let mut text = Kept::new();
-    for octet in octets {
-        text = text.with(&pair(*octet));
-    }
-    text
+    octets
+        .iter()
+        .fold(Kept::new(), |text, octet| text.with(&pair(*octet)))
 }
 
 // What stands for the octets of an order.

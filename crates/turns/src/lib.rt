@@ -11,7 +11,8 @@ use card::{Card, Gone};
 use frame::Judged;
 use input::{Head, Run};
 
-// What a turn leaves: how many octets its text has, the card after it, whether a run may follow.
+// What a turn leaves: how many octets its text has, the card after it, whether a run may follow. The card is no Option by that: `last_turn` of specs/
+// tells of it also where no run follows.
 #[derive(Clone, Copy)]
 pub struct Left {
     pub count: usize,
@@ -25,6 +26,7 @@ impl Left {
 }
 
 // A short buffer: no text, the card as it was, and no run follows.
+#[tactic(auto, unfolding(crate::specs::Turned::left_by))]
 fn refused(card: Card) -> Left
     ensures { result ≡ left_by (last_turn [] card) }
 {

@@ -10,4 +10,4 @@ pub returns : goal.returns
 unfolding why_text bench_of
 returns c =
     kept_writes _ _ _ _
-    (rw (c.line.ensures, c.ask.ensures, octets_back) at c.put_kept.ensures)
+    (rw (c.as_slice.ensures, c.line-text.ensures, c.ask.ensures, octets_back) at c.put_text.ensures)

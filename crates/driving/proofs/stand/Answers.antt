@@ -6,5 +6,5 @@ use Rattle.driving.proofs.stand.Goals as goal
 pub returns-then-put : goal.returns-then-put
 returns-then-put c = stood_whole _ _ _ c.put.ensures c.if-put.true
 
-pub returns : goal.returns
-returns c = stood_not _ _ _ c.put.ensures c.if-put.false
+pub returns-else-put : goal.returns-else-put
+returns-else-put c = stood_not _ _ _ c.put.ensures c.if-put.false

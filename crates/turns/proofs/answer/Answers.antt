@@ -8,4 +8,4 @@ use Rattle.turns.proofs.answer.Goals as goal
 pub returns : goal.returns
 unfolding gap_turn
 returns c =
-    gap_taken _ _ _ c.gap-gone.ensures _ (search rules) (search rules) c.line-count.ensures
+    gap_taken _ _ _ c.gap-gone.ensures _ (search rules) (search rules) c.line.ensures

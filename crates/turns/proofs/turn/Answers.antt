@@ -20,5 +20,5 @@ returns-in-Cut c =
 
 pub returns-in-Whole : goal.returns-in-Whole
 returns-in-Whole c =
-    run_answered _ _ _ _ _ _ c.if-out-lt-ROOM.false c.judge_run.ensures c.in-Whole.is c.part.ensures c.octets.ensures
+    run_answered _ _ _ _ _ _ c.if-out-lt-ROOM.false c.judge_run.ensures c.in-Whole.is c.part.ensures c.octets-card.ensures
     c.answer.ensures
