@@ -1,5 +1,6 @@
--- What a run is to this card, of a collector: by whether it is overfull, by its mark; from the empty collector on the run alone matters; and what was heard.
+-- What a run is to this card, of a collector: by whether it is overfull, by its mark; from the empty collector on the run alone matters.
 -- By the tests of the definition. Assumes nothing.
+use Rattle.std.specs.Prelude.{Err}
 use Prim.Native.Nat.{ℕ, ◌≤◌, ◌<◌}
 use mathlib.Core.List.{List}
 use mathlib.Core.Bool.{true, false}
@@ -12,7 +13,6 @@ use lib.ListN.{length, take, drop}
 use Rattle.octets.specs.Choice.{when◌then◌else◌}
 use Rattle.frame.specs.declared.Fault.{Fault}
 use Rattle.frame.specs.declared.Fault.TheVariants.{Empty, Long, Parity}
-use Rattle.frame.specs.declared.Service.{Service}
 use Rattle.frame.specs.Family.{sapr}
 use Rattle.frame.specs.Frame.{judge}
 use Rattle.profile.specs.declared.Profile.{Profile}
@@ -22,13 +22,11 @@ use Rattle.collector.specs.declared.Collector.{Collector}
 use Rattle.collector.specs.Collecting.{emptied, is_overfull, run_of, verdict_of}
 use Rattle.collector.specs.Calls.{collected_all_in}
 use Rattle.collector.proofs.Collecting.{empty_verdict, marked_verdict, collected_verdict}
-use Rattle.card.specs.declared.Examined.{Examined}
-use Rattle.card.specs.declared.Finding.{Finding}
-use Rattle.card.specs.declared.Finding.TheVariants.{Faulty, Asks}
-use Rattle.card.specs.Examining.{no_frame, examined_verdict, examined}
+use Rattle.card.specs.declared.NoAnswer.TheVariants.{Faulty}
+use Rattle.card.specs.Examining.{examined_verdict, examined}
 
 module _ (image : List ℕ) (c : Collector) where
-  pub overfull_examined : 261 < c.length → no_frame (Faulty Long) ≡ examined c image
+  pub overfull_examined : 261 < c.length → Err (Faulty Long) ≡ examined c image
   unfolding examined verdict_of is_overfull
   overfull_examined h = rw (lt-ltb 261 c.length h)
 
@@ -38,11 +36,11 @@ module _ (image : List ℕ) (c : Collector) where
   run_examined run h unmarked e = rw (le-ltb 261 c.length h, e, unmarked, unmarked_judged sapr (take c.length c.octets))
 
   pub marked_examined : (fault : Fault) → c.length ≤ 261 → length c.octets ≡ 261 → c.marked ≡ true → fault ≡ (when ltb 0 c.length then Parity else Empty)
-      → no_frame (Faulty fault) ≡ examined c image
+      → Err (Faulty fault) ≡ examined c image
   unfolding examined
   marked_examined fault h whole marked e = rw e (by_length (ℕ_discrete c.length 0))
     where
-      by_length : Dec (c.length ≡ 0) → no_frame (Faulty (when ltb 0 c.length then Parity else Empty)) ≡ examined c image
+      by_length : Dec (c.length ≡ 0) → Err (Faulty (when ltb 0 c.length then Parity else Empty)) ≡ examined c image
       by_length (yes none) = rw (le-ltb 0 c.length (omega arith), empty_verdict sapr c none)
       by_length (no some) = rw (lt-ltb 0 c.length (omega arith), marked_verdict sapr c (omega arith) h whole marked)
 
@@ -50,7 +48,3 @@ module _ (image : List ℕ) (c : Collector) where
 pub run_only : (p : Profile) (run : List (CharacterIn p)) (image : List ℕ) → examined (collected_all_in p emptied run) image ≡ examined_verdict image (judge_in p sapr run)
 unfolding examined
 run_only p run image = ap (examined_verdict image) (collected_verdict p run sapr)
-
--- a finding with its user octets is what was heard
-pub as_heard : (x : Examined) {service : Service} → x.finding ≡ Asks service → x ≡ record { finding = Asks service; user = x.user }
-as_heard x e = ap (λ (f : Finding). record { finding = f; user = x.user }) e

@@ -11,13 +11,11 @@ use borrow.Author.Tests.{lt-ltb, le-ltb, ltb-true, ltb-false}
 use lib.Dec.{ltb}
 use lib.ListN.{length}
 use Rattle.octets.specs.Over.{laid_in, Does}
-use Rattle.octets.specs.declared.Kept.{Kept}
 use Rattle.octets.proofs.Choice.{either, flipped}
 use Rattle.address.specs.declared.LinkAddress.{LinkAddress}
 use Rattle.frame.specs.declared.Control.TheVariants as control
 use Rattle.frame.specs.declared.Fault.{Fault}
 use Rattle.frame.specs.declared.Reply.{Reply}
-use Rattle.frame.specs.declared.Service.{Service}
 use Rattle.frame.specs.declared.WriteError.{WriteError}
 use Rattle.frame.specs.declared.WriteError.TheVariants.{Short}
 use Rattle.frame.specs.Calls.{answer_to, left_of}
@@ -31,12 +29,13 @@ use Rattle.link.specs.declared.Answered.{Answered}
 use Rattle.link.specs.Answering.{answered, reply_sent}
 use Rattle.link.proofs.Answering.{which}
 use Rattle.card.specs.declared.Card.{Card}
-use Rattle.card.specs.declared.Finding.{Finding}
-use Rattle.card.specs.declared.Finding.TheVariants.{Faulty, OtherLink, NotOffered, Asks}
+use Rattle.card.specs.declared.Asked.{Asked}
+use Rattle.card.specs.declared.NoAnswer.{NoAnswer}
+use Rattle.card.specs.declared.NoAnswer.TheVariants.{Faulty, OtherLink, NotOffered}
 use Rattle.card.specs.declared.Gone.{Gone}
 use Rattle.card.specs.State.{left_with, damaged_by}
 use Rattle.card.specs.Examining.{examined}
-use Rattle.card.specs.Gap.{Outcome, refusal, replied_by, after_answer, after_finding, after_examining, gapped, gone_by, Gapped}
+use Rattle.card.specs.Gap.{Outcome, refusal, replied_by, after_answer, after_examining, gapped, gone_by, Gapped}
 
 -- a reply written into a buffer that is long enough, and how many octets it has: the buffer is never short
 pub as_written : (buffer octets : List ℕ) {left : List ℕ} → 261 ≤ length buffer → (answer : Result ℕ WriteError)
@@ -86,33 +85,29 @@ module _ (card : Card) (image clock : List ℕ) (room : ℕ) where
   unfolding gapped
   gap_examined h s = rw (le-ltb room 261 h, s)
 
+  -- which answer is sent
+  abbrev pub answer_at : Asked → Answered
+  answer_at asked = answered card.link asked.service asked.user image clock
+
   -- a gap at which a service is heard does what the link answers
-  pub gap_heard : {service : Service} {user : Kept} → 261 ≤ room → sound_image image ≡ true
-      → examined card.collector image ≡ record { finding = Asks service; user = user }
-      → gapped card image clock room ≡ after_answer card (answered card.link service user image clock)
+  pub gap_heard : {asked : Asked} → 261 ≤ room → sound_image image ≡ true → examined card.collector image ≡ Ok asked
+      → gapped card image clock room ≡ after_answer card (answer_at asked)
   unfolding after_examining
   gap_heard h s e = rw (gap_examined h s, e)
-
-  -- which answer is sent
-  abbrev pub answer_at : Service → Kept → Answered
-  answer_at service user = answered card.link service user image clock
 
   -- the ends: the buffer too short, the image not sound, a run that is no sound frame, another link address, a control field that is not
   -- offered, a service before the first reset, a reply
   pub data End : Outcome → Type 0 where
     short : room < 261 → End (refusal 9 card)
     unsound : 261 ≤ room → sound_image image ≡ false → End (refusal 8 card)
-    faulty : 261 ≤ room → sound_image image ≡ true → (fault : Fault) → (examined card.collector image).finding ≡ Faulty fault
+    faulty : 261 ≤ room → sound_image image ≡ true → (fault : Fault) → examined card.collector image ≡ Err (Faulty fault)
         → End (refusal (fault_number fault) (damaged_by fault card))
-    other_link : 261 ≤ room → sound_image image ≡ true → (examined card.collector image).finding ≡ OtherLink → End (refusal 5 (left_with card.link card))
-    not_offered : 261 ≤ room → sound_image image ≡ true → (examined card.collector image).finding ≡ NotOffered → End (refusal 6 (left_with card.link card))
-    not_reset : 261 ≤ room → sound_image image ≡ true → (service : Service) → (examined card.collector image).finding ≡ Asks service
-        → (answer_at service (examined card.collector image).user).sends ≡ NotReset
-        → End (refusal 7 (left_with (answer_at service (examined card.collector image).user).link card))
-    replied : 261 ≤ room → sound_image image ≡ true → (service : Service) → (examined card.collector image).finding ≡ Asks service
-        → ((answer_at service (examined card.collector image).user).sends ≡ NotReset → ⊥)
-        → End (replied_by card (answer_at service (examined card.collector image).user)
-        (reply_sent (answer_at service (examined card.collector image).user).sends (answer_at service (examined card.collector image).user).link))
+    other_link : 261 ≤ room → sound_image image ≡ true → examined card.collector image ≡ Err OtherLink → End (refusal 5 (left_with card.link card))
+    not_offered : 261 ≤ room → sound_image image ≡ true → examined card.collector image ≡ Err NotOffered → End (refusal 6 (left_with card.link card))
+    not_reset : 261 ≤ room → sound_image image ≡ true → (asked : Asked) → examined card.collector image ≡ Ok asked → (answer_at asked).sends ≡ NotReset
+        → End (refusal 7 (left_with (answer_at asked).link card))
+    replied : 261 ≤ room → sound_image image ≡ true → (asked : Asked) → examined card.collector image ≡ Ok asked → ((answer_at asked).sends ≡ NotReset → ⊥)
+        → End (replied_by card (answer_at asked) (reply_sent (answer_at asked).sends (answer_at asked).link))
 
   -- each gap has one of them
   pub gap_end : End (gapped card image clock room)
@@ -120,21 +115,20 @@ module _ (card : Card) (image clock : List ℕ) (room : ℕ) where
   gap_end =
       either End (ltb room 261) (λ s. short (ltb-true _ _ s))
       (λ s. either End (not (sound_image image)) (λ u. unsound (ltb-false _ _ s) (flipped _ _ u))
-      (λ u. of_finding (ltb-false _ _ s) (flipped _ _ u) (examined card.collector image).finding refl))
+      (λ u. of_examined (ltb-false _ _ s) (flipped _ _ u) (examined card.collector image) refl))
     where
-      of_answer : 261 ≤ room → sound_image image ≡ true → (service : Service) → (examined card.collector image).finding ≡ Asks service
-          → (sends : Sends) → (answer_at service (examined card.collector image).user).sends ≡ sends
-          → End (after_answer card (answer_at service (examined card.collector image).user))
-      of_answer h s service f NotReset e = rw e (not_reset h s service f e)
-      of_answer h s service f Remembered e = rw e (rw e at (replied h s service f (λ n. omega (arith, ap which e, ap which n))))
-      of_answer h s service f (Status address) e = rw e (rw e at (replied h s service f (λ n. omega (arith, ap which e, ap which n))))
+      of_answer : 261 ≤ room → sound_image image ≡ true → (asked : Asked) → examined card.collector image ≡ Ok asked
+          → (sends : Sends) → (answer_at asked).sends ≡ sends → End (after_answer card (answer_at asked))
+      of_answer h s asked x NotReset e = rw e (not_reset h s asked x e)
+      of_answer h s asked x Remembered e = rw e (rw e at (replied h s asked x (λ n. omega (arith, ap which e, ap which n))))
+      of_answer h s asked x (Status address) e = rw e (rw e at (replied h s asked x (λ n. omega (arith, ap which e, ap which n))))
 
-      of_finding : 261 ≤ room → sound_image image ≡ true → (f : Finding) → (examined card.collector image).finding ≡ f
-          → End (after_finding card f (examined card.collector image).user image clock)
-      of_finding h s (Faulty fault) e = faulty h s fault e
-      of_finding h s OtherLink e = other_link h s e
-      of_finding h s NotOffered e = not_offered h s e
-      of_finding h s (Asks service) e = of_answer h s service e (answer_at service (examined card.collector image).user).sends refl
+      of_examined : 261 ≤ room → sound_image image ≡ true → (x : Result Asked NoAnswer) → examined card.collector image ≡ x
+          → End (after_examining card x image clock)
+      of_examined h s (Err (Faulty fault)) e = faulty h s fault e
+      of_examined h s (Err OtherLink) e = other_link h s e
+      of_examined h s (Err NotOffered) e = not_offered h s e
+      of_examined h s (Ok asked) e = of_answer h s asked e (answer_at asked).sends refl
 
   -- so number 0 says that the buffer was long enough and the image sound
   pub gap_0 : (gapped card image clock room).number ≡ 0 → (261 ≤ room) × (sound_image image ≡ true)
@@ -144,11 +138,11 @@ module _ (card : Card) (image clock : List ℕ) (room : ℕ) where
       of_end : {o : Outcome} → End o → o.number ≡ 0 → (261 ≤ room) × (sound_image image ≡ true)
       of_end (short h) e = absurd (omega (arith, e))
       of_end (unsound h s) e = absurd (omega (arith, e))
-      of_end (faulty h s fault f) e = (h, s)
-      of_end (other_link h s f) e = (h, s)
-      of_end (not_offered h s f) e = (h, s)
-      of_end (not_reset h s service f n) e = (h, s)
-      of_end (replied h s service f n) e = (h, s)
+      of_end (faulty h s fault x) e = (h, s)
+      of_end (other_link h s x) e = (h, s)
+      of_end (not_offered h s x) e = (h, s)
+      of_end (not_reset h s asked x n) e = (h, s)
+      of_end (replied h s asked x n) e = (h, s)
 
 -- a result that says an outcome, and the buffer
 pub gapped_same : (o o' : Outcome) (buffer : List ℕ) {left : List ℕ} {gone : Gone} → o ≡ o' → Gapped o' buffer gone left → Gapped o buffer gone left

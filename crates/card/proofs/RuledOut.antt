@@ -1,5 +1,6 @@
 -- What the public contracts of this crate do not allow: two wrong outcomes or more of each.
 -- By the ends of a gap, whatever the card, the image, the clock and the buffer. Assumes nothing.
+use Rattle.std.specs.Prelude.{Result, Ok, Err}
 use Prim.Native.Nat.{ℕ, ◌+◌, ◌≤◌, ◌<◌}
 use mathlib.Core.Bool.{true, false, false≢true}
 use mathlib.Core.List.{List, []}
@@ -16,7 +17,6 @@ use Rattle.octets.proofs.Outcome.{RuledOut, RuledOutWith, Place, lent, lent_mut}
 use Rattle.image.specs.Image.{sound_image}
 use Rattle.frame.specs.declared.Fault.{Fault}
 use Rattle.frame.specs.declared.Fault.TheVariants.{Empty, Long, Parity, Malformed, Spoiled}
-use Rattle.frame.specs.declared.Service.{Service}
 use Rattle.frame.specs.Family.{sapr}
 use Rattle.frame.specs.Frame.{refused, fault_number}
 use Rattle.frame.specs.Writing.{reply_octets}
@@ -34,13 +34,13 @@ use Rattle.link.specs.State.{power_on}
 use Rattle.link.specs.Answering.{answered, reply_sent}
 use Rattle.link.proofs.Answering.{answered_plain}
 use Rattle.card.specs.declared.Card.{Card}
-use Rattle.card.specs.declared.Finding.{Finding}
-use Rattle.card.specs.declared.Finding.TheVariants.{Faulty, OtherLink, NotOffered, Asks}
-use Rattle.card.specs.declared.Examined.{Examined}
+use Rattle.card.specs.declared.Asked.{Asked}
+use Rattle.card.specs.declared.NoAnswer.{NoAnswer}
+use Rattle.card.specs.declared.NoAnswer.TheVariants.{Faulty, OtherLink, NotOffered}
 use Rattle.card.specs.declared.Gone.{Gone}
 use Rattle.card.specs.State.{card_at_power_on, with_character, left_with, damaged_by}
 use Rattle.card.specs.Examining.{examined}
-use Rattle.card.specs.Gap.{Outcome, refusal, replied_by, after_finding, after_examining, gapped, gone_by}
+use Rattle.card.specs.Gap.{Outcome, refusal, replied_by, after_answer, after_examining, gapped, gone_by}
 use Rattle.card.proofs.State.{characters_collected}
 use Rattle.card.proofs.Gap.{answer_unreset, answer_replied, gap_short, gap_unsound, gap_examined, gap_end, End, short, unsound, faulty, other_link, not_offered, not_reset, replied}
 use Rattle.card.proofs.Card.gap.Reads as card_gap
@@ -150,12 +150,12 @@ module _ (card : Card) (image clock : List ℕ) (room : ℕ) where
   unfolding refusal replied_by left_with
   refused_plain (short h) n = record { reply_none = refl; order_none = refl; link_kept = refl }
   refused_plain (unsound h s) n = record { reply_none = refl; order_none = refl; link_kept = refl }
-  refused_plain (faulty h s fault f) n = record { reply_none = refl; order_none = refl; link_kept = damaged_link card fault }
-  refused_plain (other_link h s f) n = record { reply_none = refl; order_none = refl; link_kept = refl }
-  refused_plain (not_offered h s f) n = record { reply_none = refl; order_none = refl; link_kept = refl }
-  refused_plain (not_reset h s service f e) n =
-      record { reply_none = refl; order_none = refl; link_kept = (answered_plain card.link (examined card.collector image).user image clock service e).link_kept }
-  refused_plain (replied h s service f some) n = absurd (n refl)
+  refused_plain (faulty h s fault x) n = record { reply_none = refl; order_none = refl; link_kept = damaged_link card fault }
+  refused_plain (other_link h s x) n = record { reply_none = refl; order_none = refl; link_kept = refl }
+  refused_plain (not_offered h s x) n = record { reply_none = refl; order_none = refl; link_kept = refl }
+  refused_plain (not_reset h s asked x e) n =
+      record { reply_none = refl; order_none = refl; link_kept = (answered_plain card.link asked.user image clock asked.service e).link_kept }
+  refused_plain (replied h s asked x some) n = absurd (n refl)
 
   -- the run stays with 1, 8 and 9 only
   else_emptied : {o : Outcome} → End card image clock room o → (o.number ≡ 1 → ⊥) → (o.number ≡ 8 → ⊥) → (o.number ≡ 9 → ⊥)
@@ -163,11 +163,11 @@ module _ (card : Card) (image clock : List ℕ) (room : ℕ) where
   unfolding refusal replied_by left_with
   else_emptied (short h) a b c = absurd (c refl)
   else_emptied (unsound h s) a b c = absurd (b refl)
-  else_emptied (faulty h s fault f) a b c = damaged_emptied card fault a
-  else_emptied (other_link h s f) a b c = refl
-  else_emptied (not_offered h s f) a b c = refl
-  else_emptied (not_reset h s service f e) a b c = refl
-  else_emptied (replied h s service f some) a b c = refl
+  else_emptied (faulty h s fault x) a b c = damaged_emptied card fault a
+  else_emptied (other_link h s x) a b c = refl
+  else_emptied (not_offered h s x) a b c = refl
+  else_emptied (not_reset h s asked x e) a b c = refl
+  else_emptied (replied h s asked x some) a b c = refl
 
 module _ (κs : Lfts 2) (x y : Place) (card : Card) (image clock buffer : List ℕ) (wrong : Gone) where
   -- what the call is given
@@ -179,7 +179,7 @@ module _ (κs : Lfts 2) (x y : Place) (card : Card) (image clock buffer : List �
   said = gapped card image clock (length buffer)
 
   -- what the run is found to be
-  abbrev found : Examined
+  abbrev found : Result Asked NoAnswer
   found = examined card.collector image
 
   -- a refusal that the contract allows
@@ -248,15 +248,22 @@ module _ (κs : Lfts 2) (x y : Place) (card : Card) (image clock buffer : List �
 
   -- a sound image and room for a reply
   module _ (room : 261 ≤ length buffer) (whole : sound_image image ≡ true) where
-    -- what is said is that of the finding
-    by_finding : {finding : Finding} → found.finding ≡ finding → said ≡ after_finding card finding found.user image clock
+    -- what is said is that of what the run is found to be
+    by_found : {x : Result Asked NoAnswer} → found ≡ x → said ≡ after_examining card x image clock
+    by_found f = gap_examined card image clock (length buffer) room whole ∙ rw f
+
+    by_other_link : found ≡ Err OtherLink → said ≡ refusal 5 (left_with card.link card)
     unfolding after_examining
-    by_finding f = gap_examined card image clock (length buffer) room whole ∙ rw f
+    by_other_link = by_found
+
+    by_not_offered : found ≡ Err NotOffered → said ≡ refusal 6 (left_with card.link card)
+    unfolding after_examining
+    by_not_offered = by_found
 
     -- a run that is no sound frame
     by_fault : (fault : Fault) → verdict_of sapr card.collector ≡ refused fault → said ≡ refusal (fault_number fault) (damaged_by fault card)
-    unfolding examined
-    by_fault fault v = by_finding {finding = Faulty fault} (rw v)
+    unfolding examined after_examining
+    by_fault fault v = by_found {x = Err (Faulty fault)} (rw v)
 
     -- an empty run among them
     by_empty : card.collector.length ≡ 0 → said ≡ refusal 1 card
@@ -291,32 +298,36 @@ module _ (κs : Lfts 2) (x y : Place) (card : Card) (image clock buffer : List �
         omega (arith, rw (damaged, lt-ltb card.damaged 65535 end) at after)
 
     -- a frame of another link address answered, or refused by another number than 5
-    gap_other_link_number : found.finding ≡ OtherLink → (wrong.number ≡ 5 → ⊥) → RuledOut (card_gap.Post κs) given wrong
-    gap_other_link_number f other s p = other (numbered 5 _ (by_finding f) p.answers)
+    gap_other_link_number : found ≡ Err OtherLink → (wrong.number ≡ 5 → ⊥) → RuledOut (card_gap.Post κs) given wrong
+    gap_other_link_number f other s p = other (numbered 5 _ (by_other_link f) p.answers)
 
     -- a frame with a control field that is not offered answered, or refused by another number than 6
-    gap_not_offered_number : found.finding ≡ NotOffered → (wrong.number ≡ 6 → ⊥) → RuledOut (card_gap.Post κs) given wrong
-    gap_not_offered_number f other s p = other (numbered 6 _ (by_finding f) p.answers)
+    gap_not_offered_number : found ≡ Err NotOffered → (wrong.number ≡ 6 → ⊥) → RuledOut (card_gap.Post κs) given wrong
+    gap_not_offered_number f other s p = other (numbered 6 _ (by_not_offered f) p.answers)
 
     -- a frame of another link address counted as damaged
-    gap_other_link_counted : found.finding ≡ OtherLink → (wrong.card.damaged ≡ card.damaged → ⊥) → RuledOut (card_gap.Post κs) given wrong
+    gap_other_link_counted : found ≡ Err OtherLink → (wrong.card.damaged ≡ card.damaged → ⊥) → RuledOut (card_gap.Post κs) given wrong
     unfolding left_with
-    gap_other_link_counted f other s p = other (ap (λ (c : Card). c.damaged) (leaves 5 _ (by_finding f) p.answers))
+    gap_other_link_counted f other s p = other (ap (λ (c : Card). c.damaged) (leaves 5 _ (by_other_link f) p.answers))
 
     -- a frame with a control field that is not offered counted as damaged
-    gap_not_offered_counted : found.finding ≡ NotOffered → (wrong.card.damaged ≡ card.damaged → ⊥) → RuledOut (card_gap.Post κs) given wrong
+    gap_not_offered_counted : found ≡ Err NotOffered → (wrong.card.damaged ≡ card.damaged → ⊥) → RuledOut (card_gap.Post κs) given wrong
     unfolding left_with
-    gap_not_offered_counted f other s p = other (ap (λ (c : Card). c.damaged) (leaves 6 _ (by_finding f) p.answers))
+    gap_not_offered_counted f other s p = other (ap (λ (c : Card). c.damaged) (leaves 6 _ (by_not_offered f) p.answers))
 
     -- a frame that is heard
-    module _ (service : Service) (heard : found.finding ≡ Asks service) where
+    module _ (asked : Asked) (heard : found ≡ Ok asked) where
       -- what the link answers
       abbrev meant : Answered
-      meant = answered card.link service found.user image clock
+      meant = answered card.link asked.service asked.user image clock
+
+      by_heard : said ≡ after_answer card meant
+      unfolding after_examining
+      by_heard = by_found heard
 
       -- another number than 7 for a frame that the link refuses
       gap_unreset_number : meant.sends ≡ NotReset → (wrong.number ≡ 7 → ⊥) → RuledOut (card_gap.Post κs) given wrong
-      gap_unreset_number none other s p = other (numbered 7 _ (by_finding heard ∙ answer_unreset card meant none) p.answers)
+      gap_unreset_number none other s p = other (numbered 7 _ (by_heard ∙ answer_unreset card meant none) p.answers)
 
       -- a frame that is answered
       module _ (some : meant.sends ≡ NotReset → ⊥) where
@@ -326,7 +337,7 @@ module _ (κs : Lfts 2) (x y : Place) (card : Card) (image clock buffer : List �
 
         -- what is said is the answer
         by_answer : said ≡ replied_by card meant (reply_sent meant.sends meant.link)
-        by_answer = by_finding heard ∙ answer_replied card meant some
+        by_answer = by_heard ∙ answer_replied card meant some
 
         -- a refusal of a frame that is to be answered
         gap_answered_number : (wrong.number ≡ 0 → ⊥) → RuledOut (card_gap.Post κs) given wrong

@@ -1,9 +1,8 @@
 -- What a gap answers and leaves. Document 01, "What a gap answers": the numbers in the order 9, 8, 1, 2, 10, 3, 4, 5, 6, 7, then 0.
 -- Assumes nothing.
-use Rattle.std.specs.Prelude.{ℕ, not, List, [], ltb, length, replicate}
+use Rattle.std.specs.Prelude.{ℕ, not, List, [], ltb, length, replicate, Result, Ok, Err}
 use Rattle.octets.specs.First.{◌⇒◌▸◌, first_of◌else◌}
 use Rattle.octets.specs.Over.{laid_in, Does}
-use Rattle.octets.specs.declared.Kept.{Kept}
 use Rattle.frame.specs.declared.Reply.{Reply}
 use Rattle.frame.specs.Frame.{fault_number}
 use Rattle.frame.specs.Writing.{reply_octets}
@@ -15,9 +14,9 @@ use Rattle.link.specs.declared.Sends.TheVariants.{NotReset, Remembered, Status}
 use Rattle.link.specs.declared.Answered.{Answered}
 use Rattle.link.specs.Answering.{answered, reply_sent}
 use Rattle.card.specs.declared.Card.{Card}
-use Rattle.card.specs.declared.Finding.{Finding}
-use Rattle.card.specs.declared.Finding.TheVariants.{Faulty, OtherLink, NotOffered, Asks}
-use Rattle.card.specs.declared.Examined.{Examined}
+use Rattle.card.specs.declared.Asked.{Asked}
+use Rattle.card.specs.declared.NoAnswer.{NoAnswer}
+use Rattle.card.specs.declared.NoAnswer.TheVariants.{Faulty, OtherLink, NotOffered}
 use Rattle.card.specs.declared.Gone.{Gone}
 use Rattle.card.specs.State.{left_with, damaged_by}
 use Rattle.card.specs.Examining.{examined}
@@ -48,14 +47,11 @@ unfoldable pub after_answer : Card → Answered → Outcome
 after_answer card a = after_sending card a a.sends
 
 -- 1: nothing changes; 2, 10, 3 to 6: the collector is emptied, link and session are kept. What answers is given no count of damaged runs
-abbrev pub after_finding : Card → Finding → Kept → List ℕ → List ℕ → Outcome
-after_finding card (Faulty fault) user image clock = refusal (fault_number fault) (damaged_by fault card)
-after_finding card OtherLink user image clock = refusal 5 (left_with card.link card)
-after_finding card NotOffered user image clock = refusal 6 (left_with card.link card)
-after_finding card (Asks service) user image clock = after_answer card (answered card.link service user image clock)
-
-unfoldable pub after_examining : Card → Examined → List ℕ → List ℕ → Outcome
-after_examining card x image clock = after_finding card x.finding x.user image clock
+unfoldable pub after_examining : Card → Result Asked NoAnswer → List ℕ → List ℕ → Outcome
+after_examining card (Err (Faulty fault)) image clock = refusal (fault_number fault) (damaged_by fault card)
+after_examining card (Err OtherLink) image clock = refusal 5 (left_with card.link card)
+after_examining card (Err NotOffered) image clock = refusal 6 (left_with card.link card)
+after_examining card (Ok asked) image clock = after_answer card (answered card.link asked.service asked.user image clock)
 
 -- 9 and 8: nothing changes, the collector keeps its run
 unfoldable pub gapped : Card → List ℕ → List ℕ → ℕ → Outcome

@@ -10,7 +10,8 @@ ghost use Rattle.frame.specs.Writing.{reply_octets};
 ghost use Rattle.profile.specs.declared.Profile.TheVariants.{Eleven};
 ghost use Rattle.fields.specs.Answers.{identity_found};
 ghost use Rattle.card.specs.State.{card_at_power_on, collecting, with_character, with_octet, with_octets, left_with, damaged_by};
-ghost use Rattle.card.specs.Examining.{no_frame, is_link, heard, examined_frame, examined_verdict, examined};
+ghost use Rattle.card.specs.declared.NoAnswer.TheVariants.{Faulty};
+ghost use Rattle.card.specs.Examining.{is_link, heard, examined_frame, examined_verdict, examined};
 ghost use Rattle.card.specs.Gap.{refusal, after_answer, after_examining, gapped, gone_by, Gapped};
 
 use address::LinkAddress;
@@ -39,31 +40,38 @@ pub struct Gone {
     pub card: Card,
 }
 
-// What examining a run finds: why it is no sound frame, that it is not for this card, or what it asks for.
+// What a sound frame for this card asks, and its user octets.
 #[derive(Clone, Copy)]
-pub enum Finding {
-    Faulty(Fault),
-    OtherLink,
-    NotOffered,
-    Asks(Service),
-}
-
-// A finding, and the user octets of a frame that is to be answered.
-#[derive(Clone, Copy)]
-pub struct Examined {
-    pub finding: Finding,
+pub struct Asked {
+    pub service: Service,
     pub user: Kept,
 }
 
+// Why a run asks nothing of this card: it is no sound frame, it is for another card, or its control field is not offered.
+#[derive(Clone, Copy, Debug, PartialEq, Eq)]
+pub enum NoAnswer {
+    Faulty(Fault),
+    OtherLink,
+    NotOffered,
+}
+
+impl From<Fault> for NoAnswer {
+    ghost from_gives = { λ fault why. why ≡ Faulty fault };
+
+    fn from(fault: Fault) -> NoAnswer {
+        NoAnswer::Faulty(fault)
+    }
+}
+
 // The run is judged, its link address compared with the image's, its control field read. Nothing after this reads the collector.
-fn examine(collector: Collector, image: &[u8]) -> Examined
+fn examine(collector: Collector, image: &[u8]) -> Result<Asked, NoAnswer>
     ensures { result ≡ examined collector image.now }
 {
     if Judged::LONGEST < collector.length as usize {
-        return found(Finding::Faulty(Fault::Long));
+        return Err(NoAnswer::Faulty(Fault::Long));
     }
     if collector.marked {
-        return found(Finding::Faulty(fault_of_marked(collector.length)));
+        return Err(NoAnswer::Faulty(fault_of_marked(collector.length)));
     }
     examine_run(
         octets::part(&collector.octets, 0, collector.length as usize),
@@ -82,30 +90,16 @@ fn fault_of_marked(length: u16) -> Fault
     }
 }
 
-fn found(finding: Finding) -> Examined
-    ensures { result ≡ no_frame finding }
-{
-    Examined {
-        finding,
-        user: Kept::new(),
-    }
-}
-
-fn examine_run(run: &[u8], image: &[u8]) -> Examined
+fn examine_run(run: &[u8], image: &[u8]) -> Result<Asked, NoAnswer>
     ensures { result ≡ examined_verdict image.now (judge sapr run.now) }
 {
-    match frame::judge(run) {
-        Err(fault) => found(Finding::Faulty(fault)),
-        Ok(Judged::Fixed { control, link }) => {
-            examine_frame(image, Form::Fixed, control, link, &run[..0])
-        }
-        Ok(
-            Judged::Variable {
-                control,
-                link,
-                users,
-            },
-        ) => examine_frame(
+    match frame::judge(run)? {
+        Judged::Fixed { control, link } => { examine_frame(image, Form::Fixed, control, link, &[]) }
+        Judged::Variable {
+            control,
+            link,
+            users,
+        } => examine_frame(
             image,
             Form::Variable,
             control,
@@ -116,41 +110,44 @@ fn examine_run(run: &[u8], image: &[u8]) -> Examined
 }
 
 #[tactic(auto, unfolding(crate::specs::Examining::examined_frame))]
-fn examine_frame(image: &[u8], form: Form, control: u8, link: LinkAddress, user: &[u8]) -> Examined
+fn examine_frame(
+    image: &[u8],
+    form: Form,
+    control: u8,
+    link: LinkAddress,
+    user: &[u8],
+) -> Result<Asked, NoAnswer>
     requires { length user.now ≤ 252 }
     ensures { result ≡ examined_frame image.now form control link user.now }
 {
     if is_link(image, link) {
         hear(frame::service_of(form, control), user)
     } else {
-        found(Finding::OtherLink)
+        Err(NoAnswer::OtherLink)
     }
 }
 
-fn hear(asked: Option<Service>, user: &[u8]) -> Examined
+#[tactic(auto, using(octets::proofs::Keeping::added_more))]
+fn hear(asked: Option<Service>, user: &[u8]) -> Result<Asked, NoAnswer>
     requires { length user.now ≤ 252 }
     ensures { result ≡ heard asked user.now }
 {
-    match asked {
-        Some(service) => Examined {
-            finding: Finding::Asks(service),
-            user: Kept::new().with(user),
-        },
-        None => found(Finding::NotOffered),
-    }
+    let service = asked.ok_or(NoAnswer::NotOffered)?;
+    Ok(Asked {
+        service,
+        user: Kept::new().with(user),
+    })
 }
 
 // Whether a frame is for the card that an image describes.
 fn is_link(image: &[u8], link: LinkAddress) -> bool
     ensures { result ≡ is_link (identity_found image.now) link }
 {
-    match fields::identity_of(image) {
-        Some(identity) => identity.link == link,
-        None => false,
-    }
+    fields::identity_of(image).is_some_and(|identity| identity.link == link)
 }
 
 impl Card {
+    #[tactic(auto, unfolding(crate::specs::State::card_at_power_on))]
     pub fn power_on() -> Card
         ensures { result ≡ card_at_power_on }
     {
@@ -169,6 +166,7 @@ impl Card {
     }
 
     // A character of eleven bits came in: an octet with its parity bit.
+    #[tactic(auto, unfolding(crate::specs::State::with_character))]
     pub fn character(self, character: Character) -> Card
         ensures { result ≡ with_character Eleven self character }
     {
@@ -176,6 +174,7 @@ impl Card {
     }
 
     // Octets came in, one after the other; the card is copied once for all of them.
+    #[tactic(auto, using(crate::proofs::State::characters_collected))]
     pub fn octets(self, octets: &[u8]) -> Card
         ensures { result ≡ with_octets self octets.now }
     {
@@ -203,13 +202,14 @@ impl Card {
     fn damaged_by(self, fault: Fault) -> Card
         ensures { result ≡ damaged_by fault self }
     {
-        if !collector::is_damaged(fault) {
-            return self;
-        }
-        Card {
-            collector: Collector::new(),
-            damaged: collector::one_more(self.damaged),
-            ..self
+        if collector::is_damaged(fault) {
+            Card {
+                collector: Collector::new(),
+                damaged: collector::one_more(self.damaged),
+                ..self
+            }
+        } else {
+            self
         }
     }
 
@@ -229,6 +229,7 @@ impl Card {
 }
 
 // No reply and no order.
+#[tactic(auto, unfolding(crate::specs::Gap::refusal, crate::specs::Gap::gone_by))]
 fn refused(number: u8, card: Card) -> Gone
     ensures { result ≡ gone_by (refusal number card) }
 {
@@ -241,9 +242,10 @@ fn refused(number: u8, card: Card) -> Gone
     }
 }
 
+#[tactic(auto, unfolding(crate::specs::Gap::after_examining), using(crate::proofs::Gap::refused_gap))]
 fn after_examining(
     card: Card,
-    examined: Examined,
+    examined: Result<Asked, NoAnswer>,
     image: &[u8],
     clock: [u8; 7],
     buffer: &mut [u8],
@@ -251,14 +253,13 @@ fn after_examining(
     requires { 261 ≤ length buffer.old }
     ensures { Gapped (after_examining card examined image.now clock) buffer.old result buffer.new }
 {
-    let link = card.link;
-    match examined.finding {
-        Finding::Faulty(fault) => refused(fault.number(), card.damaged_by(fault)),
-        Finding::OtherLink => refused(5, card.left_with(link)),
-        Finding::NotOffered => refused(6, card.left_with(link)),
-        Finding::Asks(service) => after_answer(
+    match examined {
+        Err(NoAnswer::Faulty(fault)) => refused(fault.number(), card.damaged_by(fault)),
+        Err(NoAnswer::OtherLink) => refused(5, card.left_with(card.link)),
+        Err(NoAnswer::NotOffered) => refused(6, card.left_with(card.link)),
+        Ok(asked) => after_answer(
             card,
-            link.answer(service, examined.user, image, clock),
+            card.link.answer(asked.service, asked.user, image, clock),
             buffer,
         ),
     }

@@ -15,7 +15,7 @@ use octets::{Kept, Number};
 
 // Why a run is no sound frame: empty, over 261 octets, a wrong parity bit, not the form of a frame, a wrong checksum. Octets have no parity bit: `judge`
 // finds none wrong.
-#[derive(Clone, Copy)]
+#[derive(Clone, Copy, Debug, PartialEq, Eq)]
 pub enum Fault {
     Empty,
     Long,

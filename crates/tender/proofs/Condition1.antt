@@ -1,6 +1,6 @@
 -- Condition 1 holds of our card, and the count of damaged runs is tied to the number.
 -- The definition and the paper's list are walked side by side, test by test; each end is one of four. Assumes nothing.
-use Rattle.std.specs.Prelude.{Option, Some, None}
+use Rattle.std.specs.Prelude.{Option, Some, None, Result}
 use Prim.Native.Nat.{ℕ, ◌≤◌}
 use mathlib.Core.Bool.{Bool, true, false, not, ◌&&◌, ◌||◌}
 use mathlib.Core.List.{List, []}
@@ -30,7 +30,8 @@ use Rattle.link.specs.declared.Answered.{Answered}
 use Rattle.link.specs.Answering.{answered_by, noted, carried}
 use Rattle.link.proofs.Answering.{Way, as_reset, as_status, not_reset, repeated, as_nack, carried_out_law, as_given, nothing_given, way}
 use Rattle.card.specs.declared.Card.{Card}
-use Rattle.card.specs.declared.Examined.{Examined}
+use Rattle.card.specs.declared.Asked.{Asked}
+use Rattle.card.specs.declared.NoAnswer.{NoAnswer}
 use Rattle.card.specs.State.{with_character, left_with, damaged_by}
 use Rattle.card.specs.Examining.{is_link, heard, examined_frame, examined_verdict, examined}
 use Rattle.card.specs.Gap.{Outcome, refusal, replied_by, after_answer, after_examining, gapped}
@@ -73,7 +74,7 @@ module _ (card : Card) (loan : Loan) where
   abbrev run : List ℕ
   run = run_of card.collector
 
-  abbrev ExaminedEnds : Examined → ℕ → Type 0
+  abbrev ExaminedEnds : Result Asked NoAnswer → ℕ → Type 0
   ExaminedEnds x n = Ends card (after_examining card x loan.image loan.clock) n
 
   -- 6 and 7

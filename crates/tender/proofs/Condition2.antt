@@ -1,5 +1,6 @@
 -- Condition 2: the card is the definition's, and every reply is a sound frame of at most 261 octets that gives back what was meant.
 -- What is remembered can be written from power-on on (an invariant), and what can be written is read back. Assumes nothing.
+use Rattle.std.specs.Prelude.{Ok}
 use Prim.Native.Nat.{ℕ, ◌≤◌}
 use mathlib.Core.List.{List}
 use mathlib.Core.Path.{◌≡◌, refl, ap, ◌∙◌}
@@ -23,9 +24,9 @@ use Rattle.profile.proofs.Judging.{sent_judged}
 use Rattle.collector.specs.Damage.{damages}
 use Rattle.link.specs.Answering.{answered}
 use Rattle.card.specs.declared.Card.{Card}
+use Rattle.card.specs.declared.Asked.{Asked}
 use Rattle.card.specs.State.{card_at_power_on, with_character, left_with, damaged_by}
 use Rattle.card.specs.Examining.{examined}
-use Rattle.card.proofs.Examining.{as_heard}
 use Rattle.card.specs.Gap.{Outcome, refusal, replied_by}
 use Rattle.card.proofs.Gap.{End, short, unsound, faulty, other_link, not_offered, not_reset, replied, gap_end}
 use Rattle.tender.specs.Card.{Loan, Heard, outcome_at, our_gap, ours, our_card}
@@ -49,12 +50,9 @@ record Told (card : Card) (loan : Loan) (o : Outcome) : Type 0 where
   replies : o.number ≡ 0 → Meets card loan o
 
 module _ (card : Card) (loan : Loan) (lent : Lent loan) (ready : Ready card.link) where
-  abbrev user : Kept
-  user = (examined card.collector loan.image).user
-
-  ready_answer : (service : Service) → AnswersReady (answered card.link service user loan.image loan.clock)
-  ready_answer service =
-      answered_ready card.link ready user (heard_short card.collector loan.image) loan.image loan.clock lent.octets lent.seven service
+  ready_answer : (asked : Asked) → examined card.collector loan.image ≡ Ok asked → AnswersReady (answered card.link asked.service asked.user loan.image loan.clock)
+  ready_answer asked e =
+      answered_ready card.link ready asked.user (rw e at (heard_short card.collector loan.image)) loan.image loan.clock lent.octets lent.seven asked.service
 
   refusal_told : (n : ℕ) (after : Card) → (n ≡ 0 → ⊥) → Ready after.link → Told card loan (refusal n after)
   unfolding refusal
@@ -64,21 +62,21 @@ module _ (card : Card) (loan : Loan) (lent : Lent loan) (ready : Ready card.link
   unfolding damaged_by left_with replied_by
   end_told (short h) = refusal_told 9 card (λ e. omega arith) ready
   end_told (unsound h s) = refusal_told 8 card (λ e. omega arith) ready
-  end_told (faulty h s fault f) =
+  end_told (faulty h s fault x) =
       refusal_told (fault_number fault) _ (fault_some fault) (either (λ (c : Card). Ready c.link) (damages fault) (λ _. ready) (λ _. ready))
-  end_told (other_link h s f) = refusal_told 5 _ (λ e. omega arith) ready
-  end_told (not_offered h s f) = refusal_told 6 _ (λ e. omega arith) ready
-  end_told (not_reset h s service f n) = refusal_told 7 _ (λ e. omega arith) (ready_answer service).link
-  end_told (replied h s service f n) =
+  end_told (other_link h s x) = refusal_told 5 _ (λ e. omega arith) ready
+  end_told (not_offered h s x) = refusal_told 6 _ (λ e. omega arith) ready
+  end_told (not_reset h s asked x n) = refusal_told 7 _ (λ e. omega arith) (ready_answer asked x).link
+  end_told (replied h s asked x n) =
       record {
-        leaves = (ready_answer service).link;
+        leaves = (ready_answer asked x).link;
         replies = λ e.
             record {
-              service = service;
-              user = user;
-              heard = as_heard (examined card.collector loan.image) f;
+              service = asked.service;
+              user = asked.user;
+              heard = x;
               reply = refl;
-              can = (ready_answer service).reply;
+              can = (ready_answer asked x).reply;
             };
       }
 

@@ -1,6 +1,6 @@
 -- Condition 3 holds of our card, in each profile: noise goes unnoticed; and a sound frame with exactly one octet changed is noise.
 -- By the laws of a deaf machine, kept being a collector that some run has left. Assumes nothing.
-use Rattle.std.specs.Prelude.{Option, Some, None}
+use Rattle.std.specs.Prelude.{Option, Some, None, Result, Ok, Err}
 use Prim.Native.Nat.{ℕ}
 use mathlib.Core.Bool.{Bool, true, not, ◌||◌}
 use mathlib.Core.List.{List, [], ◌∷◌, ◌++◌}
@@ -10,7 +10,6 @@ use lib.Dec.{ltb}
 use lib.ListN.{length, set, length-set, length-map}
 use borrow.Author.Tests.{ne_eqb}
 use Rattle.octets.proofs.Choice.{either, if_both}
-use Rattle.octets.specs.declared.Kept.{Kept}
 use Rattle.history.specs.History.{fed}
 use Rattle.history.proofs.Invariant.{Invariant}
 use Rattle.history.proofs.Noise.{Deaf, unnoticed}
@@ -38,12 +37,12 @@ use Rattle.link.specs.declared.Sends.TheVariants.{NotReset, Remembered, Status}
 use Rattle.link.specs.declared.Answered.{Answered}
 use Rattle.link.specs.Answering.{answered}
 use Rattle.card.specs.declared.Card.{Card}
-use Rattle.card.specs.declared.Examined.{Examined}
-use Rattle.card.specs.declared.Finding.{Finding}
-use Rattle.card.specs.declared.Finding.TheVariants.{Faulty, OtherLink, NotOffered, Asks}
+use Rattle.card.specs.declared.Asked.{Asked}
+use Rattle.card.specs.declared.NoAnswer.{NoAnswer}
+use Rattle.card.specs.declared.NoAnswer.TheVariants.{Faulty, OtherLink, NotOffered}
 use Rattle.card.specs.State.{card_at_power_on, collecting, with_character, left_with, damaged_by}
 use Rattle.card.specs.Examining.{is_link, heard, examined_frame, examined_verdict, examined}
-use Rattle.card.specs.Gap.{refusal, replied_by, after_sending, after_answer, after_finding, after_examining, gapped}
+use Rattle.card.specs.Gap.{refusal, replied_by, after_sending, after_answer, after_examining, gapped}
 use Rattle.card.specs.Gap as gap
 use Rattle.card.proofs.Examining.{run_only}
 use Rattle.tender.specs.Card.{Loan, seen_of, outcome_at, our_gap, ours, our_card}
@@ -73,15 +72,12 @@ marked_damaged wrong run some =
 in_damaged : (p : Profile) (run : List (CharacterIn p)) → (length run ≡ 0 → ⊥) → Damaged (judge_in p sapr run)
 in_damaged p run some = marked_damaged (not (are_right p run)) (octets_in p run) (λ none. some (sym (length-map run (octet_in p)) ∙ none))
 
--- a finding that changes nothing is that of an empty run
-abbrev Ends : Finding → Type 0
-Ends (Faulty fault) = damages fault ≡ true
-Ends OtherLink = Unit {0}
-Ends NotOffered = Unit {0}
-Ends (Asks service) = Unit {0}
-
-abbrev ExaminedEnds : Examined → Type 0
-ExaminedEnds x = Ends x.finding
+-- what changes nothing is an empty run
+abbrev ExaminedEnds : Result Asked NoAnswer → Type 0
+ExaminedEnds (Err (Faulty fault)) = damages fault ≡ true
+ExaminedEnds (Err OtherLink) = Unit {0}
+ExaminedEnds (Err NotOffered) = Unit {0}
+ExaminedEnds (Ok asked) = Unit {0}
 
 asked_ends : (a : Option Service) (user : List ℕ) → ExaminedEnds (heard a user)
 asked_ends None user = tt
@@ -127,30 +123,30 @@ module _ (card : Card) (image clock : List ℕ) where
       by_sends Remembered = refl
       by_sends (Status address) = refl
 
-  finding_rests : (f : Finding) (user : Kept) → Ends f → Rests (after_finding card f user image clock)
-  unfolding refusal damaged_by left_with
-  finding_rests (Faulty fault) user d = rw d
-  finding_rests OtherLink user d = refl
-  finding_rests NotOffered user d = refl
-  finding_rests (Asks service) user d = answer_rests (answered card.link service user image clock)
+  examined_rests : (x : Result Asked NoAnswer) → ExaminedEnds x → Rests (after_examining card x image clock)
+  unfolding refusal damaged_by left_with after_examining
+  examined_rests (Err (Faulty fault)) d = rw d
+  examined_rests (Err OtherLink) d = refl
+  examined_rests (Err NotOffered) d = refl
+  examined_rests (Ok asked) d = answer_rests (answered card.link asked.service asked.user image clock)
 
   -- an empty collector stays one
-  empty_rests : (f : Finding) (user : Kept) → card.collector ≡ emptied → Rests (after_finding card f user image clock)
-  unfolding refusal damaged_by left_with
-  empty_rests (Faulty fault) user none = either (λ (c : Card). c.collector ≡ emptied) (damages fault) (λ _. refl) (λ _. none)
-  empty_rests OtherLink user none = refl
-  empty_rests NotOffered user none = refl
-  empty_rests (Asks service) user none = answer_rests (answered card.link service user image clock)
+  empty_rests : (x : Result Asked NoAnswer) → card.collector ≡ emptied → Rests (after_examining card x image clock)
+  unfolding refusal damaged_by left_with after_examining
+  empty_rests (Err (Faulty fault)) none = either (λ (c : Card). c.collector ≡ emptied) (damages fault) (λ _. refl) (λ _. none)
+  empty_rests (Err OtherLink) none = refl
+  empty_rests (Err NotOffered) none = refl
+  empty_rests (Ok asked) none = answer_rests (answered card.link asked.service asked.user image clock)
 
 -- at a fit gap a card that a run has left comes to rest
 pub left_rests : (p : Profile) (card : Card) (loan : Loan) {image clock : List ℕ} → Fit image clock loan → Left p card.collector → Rests (outcome_at card loan)
-unfolding collected_all_in after_examining
+unfolding collected_all_in
 left_rests p card loan {image} {clock} f left = rw (fit_gap f card) (by_run left.run left.by_run)
   where
     by_run : (run : List (CharacterIn p)) → card.collector ≡ collected_all_in p emptied run → Rests (after_examining card (examined card.collector image) image clock)
-    by_run [] e = empty_rests card image clock (examined card.collector image).finding (examined card.collector image).user e
+    by_run [] e = empty_rests card image clock (examined card.collector image) e
     by_run (x ∷ run) e =
-        finding_rests card image clock (examined card.collector image).finding (examined card.collector image).user
+        examined_rests card image clock (examined card.collector image)
         (rw e (examined_ends p (x ∷ run) image (λ h. omega arith)))
 
 pub left_kept : (p : Profile) (image clock : List ℕ) → Invariant (ours p) (Fit image clock) (λ (card : Card). Left p card.collector)
@@ -203,20 +199,21 @@ module _ (s t : Card) (a : Alike s t) where
       by_sends Remembered = record { numbers = refl; replies = refl; orders = refl; times = refl; cards = record { collectors = refl; links = refl } }
       by_sends (Status address) = record { numbers = refl; replies = refl; orders = refl; times = refl; cards = record { collectors = refl; links = refl } }
 
-  alike_finding : (f : Finding) (user : Kept) (image clock : List ℕ) → AlikeOutcomes (after_finding s f user image clock) (after_finding t f user image clock)
-  alike_finding (Faulty fault) user image clock = alike_refusal (fault_number fault) _ _ (alike_damaged fault)
-  alike_finding OtherLink user image clock = alike_kept 5
-  alike_finding NotOffered user image clock = alike_kept 6
-  alike_finding (Asks service) user image clock =
-      rw (ap (λ (l : Link). answered l service user image clock) a.links) (alike_answer (answered t.link service user image clock))
+  alike_examined : (x : Result Asked NoAnswer) (image clock : List ℕ) → AlikeOutcomes (after_examining s x image clock) (after_examining t x image clock)
+  unfolding after_examining
+  alike_examined (Err (Faulty fault)) image clock = alike_refusal (fault_number fault) _ _ (alike_damaged fault)
+  alike_examined (Err OtherLink) image clock = alike_kept 5
+  alike_examined (Err NotOffered) image clock = alike_kept 6
+  alike_examined (Ok asked) image clock =
+      rw (ap (λ (l : Link). answered l asked.service asked.user image clock) a.links) (alike_answer (answered t.link asked.service asked.user image clock))
 
   alike_gap : (loan : Loan) → AlikeOutcomes (outcome_at s loan) (outcome_at t loan)
-  unfolding gapped after_examining
+  unfolding gapped
   alike_gap loan =
       if_both AlikeOutcomes (ltb (length loan.buffer) 261) (λ e. alike_refusal 9 s t a) (λ e.
       if_both AlikeOutcomes (not (sound_image loan.image)) (λ e. alike_refusal 8 s t a) (λ e.
       rw (ap (λ (c : Collector). examined c loan.image) a.collectors)
-      (alike_finding (examined t.collector loan.image).finding (examined t.collector loan.image).user loan.image loan.clock)))
+      (alike_examined (examined t.collector loan.image) loan.image loan.clock)))
 
 -- noise, and the fault by which it is refused
 module _ (p : Profile) where

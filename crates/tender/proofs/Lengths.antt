@@ -35,7 +35,7 @@ use Rattle.deeds.specs.declared.Pending.{Pending}
 use Rattle.deeds.specs.Deeds.{deed_of, done_by, carried_out, nothing_pending}
 use Rattle.waiting.specs.declared.Next.{Next}
 use Rattle.waiting.specs.NextReply.{firstly, lastly, nothing_found, reading_type, data_pending, mirror_with, identity_from}
-use Rattle.waiting.specs.NextReply.{asked, dates_from, clock_from, data_from, after_data, begin_with, next_by, next_of}
+use Rattle.waiting.specs.NextReply.{asked, dates_from, clock_from, data_from, after_data, begin_with, next_by, next_of, message_in}
 use Rattle.fields.specs.declared.Identity.{Identity}
 use Rattle.fields.specs.declared.Dates.{Dates}
 
@@ -50,7 +50,7 @@ pub record Holds (pending : Pending) : Type 0 where
 
 -- a message that is given, and what waits behind it
 pub record GivenShort (next : Next) : Type 0 where
-  pub message : Short next.message
+  pub message : Short (message_in next)
   pub pending : Holds next.pending
 
 of_octets : (octets : List ℕ) → length octets ≤ 252 → Short (kept_of octets)

@@ -1,6 +1,6 @@
 -- An answered data or collection frame received again as the next run gets the same reply, gives no order, changes nothing.
 -- Answered, it leaves its FCB as the last and its reply as the remembered one, and that answers it again. Assumes nothing.
-use Rattle.std.specs.Prelude.{Option, Some}
+use Rattle.std.specs.Prelude.{Option, Some, Result, Ok}
 use Prim.Native.Nat.{ℕ}
 use mathlib.Core.Bool.{Bool, false, true, not}
 use mathlib.Core.List.{List, [], ◌∷◌}
@@ -28,8 +28,8 @@ use Rattle.link.specs.declared.Answered.{Answered}
 use Rattle.link.specs.Answering.{answered_by, answered, reply_sent}
 use Rattle.link.proofs.Answering.{which, answered_noted, answered_last}
 use Rattle.card.specs.declared.Card.{Card}
-use Rattle.card.specs.declared.Examined.{Examined}
-use Rattle.card.specs.declared.Finding.TheVariants.{Asks}
+use Rattle.card.specs.declared.Asked.{Asked}
+use Rattle.card.specs.declared.NoAnswer.{NoAnswer}
 use Rattle.card.specs.State.{card_at_power_on, collecting, left_with}
 use Rattle.card.specs.Examining.{is_link, heard, examined_frame, examined_verdict}
 use Rattle.card.specs.Gap.{refusal, replied_by, after_answer, after_examining}
@@ -47,8 +47,8 @@ user_in (variable c a user) = kept_of user
 
 -- a frame that asks for a service is heard so where it is answered: it is for this card
 module _ (card : Card) (image clock : List ℕ) (asked : Service) where
-  abbrev TakenAs : Kept → Examined → Type 0
-  TakenAs user x = (after_examining card x image clock).number ≡ 0 → x ≡ record { finding = Asks asked; user = user }
+  abbrev TakenAs : Kept → Result Asked NoAnswer → Type 0
+  TakenAs user x = (after_examining card x image clock).number ≡ 0 → x ≡ Ok (record { service = asked; user = user })
 
   taken : (f : Frame) → asked_by f ≡ Some asked → TakenAs (user_in f) (examined_verdict image (sound f))
   unfolding examined_frame after_examining refusal
@@ -61,13 +61,13 @@ module _ (card : Card) (image clock : List ℕ) (asked : Service) where
 
 -- from the empty collector, a sound frame for this card
 module _ (p : Profile) {image clock : List ℕ} (run : List (CharacterIn p)) (frame : Frame) (says : judge_in p sapr run ≡ sound frame) (asked : Service)
-    (taken_as : examined_verdict image (sound frame) ≡ record { finding = Asks asked; user = user_in frame }) where
+    (taken_as : examined_verdict image (sound frame) ≡ Ok (record { service = asked; user = user_in frame })) where
   sound_gap : (card : Card) (loan : Loan) → Fit image clock loan → card.collector ≡ emptied
       → outcome_at (fed (ours p) card run) loan ≡ after_answer (collecting (collected_all_in p emptied run) card) (answered card.link asked (user_in frame) image clock)
   unfolding after_examining
   sound_gap card loan f rest =
       rested_gap f p card run rest (sound frame) says
-      ∙ ap (λ (x : Examined). after_examining (collecting (collected_all_in p emptied run) card) x image clock) taken_as
+      ∙ ap (λ (x : Result Asked NoAnswer). after_examining (collecting (collected_all_in p emptied run) card) x image clock) taken_as
 
   -- answered with a: the reply is a's, the link is as a leaves it, and all else of the card is as it was
   answered_gap : (card : Card) (loan : Loan) → Fit image clock loan → card.collector ≡ emptied

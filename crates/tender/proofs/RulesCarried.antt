@@ -1,6 +1,7 @@
 -- Document 01's rules of orders and of the session hold of our card at every gap.
 -- By the ends of a gap, the ways in which a frame is answered, and what a message does that is carried out: only such a message gives an order, and only it
 -- and a reset change the session. Assumes nothing.
+use Rattle.std.specs.Prelude.{Ok}
 use Prim.Native.Nat.{ℕ, ◌≤◌}
 use mathlib.Core.Bool.{true, false}
 use mathlib.Core.List.{List}
@@ -33,10 +34,9 @@ use Rattle.link.specs.State.{after_reset, after_new}
 use Rattle.link.specs.Answering.{answered_by, noted, carried, user_data, answered}
 use Rattle.link.proofs.Answering.{with_new, Way, as_reset, as_status, not_reset, repeated, as_nack, carried_out_law, as_given, nothing_given, way}
 use Rattle.card.specs.declared.Card.{Card}
-use Rattle.card.specs.declared.Finding.TheVariants.{Asks}
+use Rattle.card.specs.declared.Asked.{Asked}
 use Rattle.card.specs.State.{left_with, damaged_by}
 use Rattle.card.specs.Examining.{examined}
-use Rattle.card.proofs.Examining.{as_heard}
 use Rattle.card.specs.Gap.{Outcome, refusal, replied_by, after_answer}
 use Rattle.card.proofs.Gap.{End, short, unsound, faulty, other_link, not_offered, replied, gap_heard, gap_end}
 use Rattle.card.proofs.Gap as end
@@ -111,14 +111,11 @@ module _ {card : Card} {loan : Loan} {user : Kept} {bit : ℕ} (f : Afresh card 
 
 -- every gap
 module _ (card : Card) (loan : Loan) where
-  abbrev user : Kept
-  user = (examined card.collector loan.image).user
-
   -- a service is heard
-  way_ended : {service : Service} {a : Answered} → Hears card loan service user → Way card.link user loan.image loan.clock service a
+  way_ended : {user : Kept} {service : Service} {a : Answered} → Hears card loan service user → Way card.link user loan.image loan.clock service a
       → Ended card loan a.order a.time a.link.session
   unfolding answered_by noted carried after_reset after_new
-  way_ended h as_reset = changing (by_reset user h)
+  way_ended {user} h as_reset = changing (by_reset user h)
   way_ended h as_status = quiet
   way_ended h (not_reset counts unset) = quiet
   way_ended h (repeated counts set e) = quiet
@@ -127,11 +124,11 @@ module _ (card : Card) (loan : Loan) where
   way_ended h (as_given fresh found) = quiet
   way_ended h (nothing_given fresh found) = quiet
 
-  heard_ended : 261 ≤ length loan.buffer → sound_image loan.image ≡ true → (service : Service) → (examined card.collector loan.image).finding ≡ Asks service
-      → let a = answered card.link service user loan.image loan.clock in Ended card loan a.order a.time a.link.session
-  heard_ended room sound service f =
-      way_ended (record { room = room; sound_image_law = sound; heard = as_heard (examined card.collector loan.image) f })
-      (way card.link user loan.image loan.clock service)
+  heard_ended : 261 ≤ length loan.buffer → sound_image loan.image ≡ true → (asked : Asked) → examined card.collector loan.image ≡ Ok asked
+      → let a = answered card.link asked.service asked.user loan.image loan.clock in Ended card loan a.order a.time a.link.session
+  heard_ended room sound asked e =
+      way_ended (record { room = room; sound_image_law = sound; heard = e })
+      (way card.link asked.user loan.image loan.clock asked.service)
 
   abbrev EndedSo : Outcome → Type 0
   EndedSo o = Ended card loan o.order o.time o.card.link.session
@@ -140,12 +137,12 @@ module _ (card : Card) (loan : Loan) where
   unfolding refusal replied_by left_with damaged_by
   end_ended (short h) = quiet
   end_ended (unsound h s) = quiet
-  end_ended (faulty h s fault f) =
+  end_ended (faulty h s fault x) =
       record { orders = inr (refl, refl); sessions = inr (either (λ (c : Card). c.link.session ≡ card.link.session) (damages fault) (λ t. refl) (λ t. refl)) }
-  end_ended (other_link h s f) = quiet
-  end_ended (not_offered h s f) = quiet
-  end_ended (end.not_reset h s service f n) = record { orders = inr (refl, refl); sessions = (heard_ended h s service f).sessions }
-  end_ended (replied h s service f n) = heard_ended h s service f
+  end_ended (other_link h s x) = quiet
+  end_ended (not_offered h s x) = quiet
+  end_ended (end.not_reset h s asked x n) = record { orders = inr (refl, refl); sessions = (heard_ended h s asked x).sessions }
+  end_ended (replied h s asked x n) = heard_ended h s asked x
 
   gap_ended : EndedSo (outcome_at card loan)
   gap_ended = end_ended (gap_end card loan.image loan.clock (length loan.buffer))

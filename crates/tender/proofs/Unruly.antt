@@ -1,5 +1,6 @@
 -- Each unruly card breaks a rule, or is not as the question why says.
 -- It hears one frame, over document 01's smallest image, and what it answers or leaves computes to something else. Assumes nothing.
+use Rattle.std.specs.Prelude.{Result, Ok, Err}
 use Prim.Native.Nat.{ℕ, ◌<◌}
 use mathlib.Core.Bool.{true, false, false≢true}
 use mathlib.Core.List.{List, [], ◌∷◌, ◌++◌}
@@ -19,10 +20,10 @@ use Rattle.octets.specs.Numbers.{low_octets}
 use Rattle.octets.specs.Over.{laid_in}
 use Rattle.address.specs.declared.LinkAddress.{LinkAddress}
 use Rattle.profile.specs.declared.Profile.TheVariants.{Ten}
-use Rattle.card.specs.declared.Finding.TheVariants.{Asks}
+use Rattle.card.specs.declared.Asked.{Asked}
+use Rattle.card.specs.declared.NoAnswer.{NoAnswer}
 use Rattle.collector.specs.Collecting.{emptied}
 use Rattle.card.specs.Examining.{examined}
-use Rattle.card.proofs.Examining.{as_heard}
 use Rattle.rules.specs.declared.Session.TheVariants.{Open}
 use Rattle.rules.specs.declared.Rule.TheVariants.{Address, WrongPassword, Accepted}
 use Rattle.deeds.specs.declared.Waiting.TheVariants.{Mirror}
@@ -63,16 +64,20 @@ abbrev hearing : List ℕ → ℕ → Pending → Card
 hearing run last pending =
     fed (ours Ten) (record { collector = emptied; link = link_with last (Open (record { 0 = 1 })) (plain Ack (record { 0 = 1 })) pending; damaged = 0 }) run
 
-abbrev user_of : Card → Kept
-user_of card = (examined card.collector smallest).user
+-- the user octets of what it hears
+abbrev user_in : Result Asked NoAnswer → Kept
+user_in (Ok asked) = asked.user
+user_in (Err why) = kept_of []
 
-hears : (card : Card) (service : Service) → (examined card.collector smallest).finding ≡ Asks service → Hears card lent service (user_of card)
-hears card service asks =
-    record {
-      room = fit.full_size;
-      sound_image_law = fit.sound_image_law;
-      heard = as_heard (examined card.collector smallest) asks;
-    }
+abbrev user_of : Card → Kept
+user_of card = user_in (examined card.collector smallest)
+
+-- it hears a service
+abbrev Asks : Card → Service → Type 0
+Asks card service = examined card.collector smallest ≡ Ok (record { service = service; user = user_of card })
+
+hears : (card : Card) (service : Service) → Asks card service → Hears card lent service (user_of card)
+hears card service asks = record { room = fit.full_size; sound_image_law = fit.sound_image_law; heard = asks }
 
 pub status_closes : StatusKeeps closing_at_status → ⊥
 unfolding everything
@@ -83,7 +88,7 @@ status_closes c =
     omega (arith, none)
 
 -- heard with FCB 1 where 0 is the last
-afresh : (card : Card) (service : Service) → (examined card.collector smallest).finding ≡ Asks service → card.link.reset ≡ true → card.link.fcb ≡ 0
+afresh : (card : Card) (service : Service) → Asks card service → card.link.reset ≡ true → card.link.fcb ≡ 0
     → Afresh card lent service (user_of card) 1
 afresh card service asks set last = record { hears = hears card service asks; is_reset = set; new = λ e. absurd (omega (arith, e, last)) }
 

@@ -32,6 +32,7 @@ use Rattle.deeds.specs.declared.Order.{Order}
 use Rattle.deeds.specs.declared.Order.TheVariants.{NoOrder, SetClock, SetDates}
 use Rattle.deeds.specs.Deeds.{deed_of, done_by, is_waiting, carried_out}
 use Rattle.deeds.proofs.Deeds.{refused_mirror, clock_time, dates_time}
+use Rattle.waiting.specs.declared.Next.{Next}
 use Rattle.waiting.specs.NextReply.{firstly, lastly, next_of, message_in}
 use Rattle.link.specs.declared.Link.{Link}
 use Rattle.card.specs.declared.Card.{Card}
@@ -117,7 +118,7 @@ module _ (gap : GapCall) (meets : Rules gap) where
       let waits : replies_wait later ≡ true =
       rw (same, link_after s, (by_name s).decided, refused) (either (λ (w : Waiting). is_waiting w ≡ true) (pn_by rule) (λ t. refl) (λ t. refl)) in
       let message : (message_in (next_of later.link.pending its-loan.image)) ≡ mirror_of user (pn_bit (pn_by rule)) (cause_by rule) =
-      rw (same, link_after s, (by_name s).decided, refused) (ap (λ n. n.message) (mirror_next user _ its-loan.image rule)) in
+      rw (same, link_after s, (by_name s).decided, refused) (ap (λ (n : Next). message_in n) (mirror_next user _ its-loan.image rule)) in
       record {
         message = (message_in (next_of later.link.pending its-loan.image));
         replies = ((meets.collects later its-loan nothing next fresh).else_next waits).replies;

@@ -1,6 +1,6 @@
 -- What the link remembers can be written, from power-on on: its address has two octets, and at most 252 user octets count.
 -- By the ways in which a frame is answered; a new reply carries the address of the image lent. Assumes nothing.
-use Rattle.std.specs.Prelude.{Option, Some, None}
+use Rattle.std.specs.Prelude.{Option, Some, None, Result, Ok, Err}
 use Prim.Native.Nat.{ℕ, ◌≤◌, ◌<◌}
 use mathlib.Core.Bool.{Bool, not}
 use mathlib.Core.List.{List, []}
@@ -37,7 +37,8 @@ use Rattle.waiting.specs.NextReply.{next_of, message_in}
 use Rattle.link.specs.State.{data_reply, power_on, after_reset, after_new}
 use Rattle.link.specs.Answering.{link_in, answered_by, noted, carried, answered, reply_sent}
 use Rattle.link.proofs.Answering.{Way, as_reset, as_status, not_reset, repeated, as_nack, carried_out_law, as_given, nothing_given, way}
-use Rattle.card.specs.declared.Examined.{Examined}
+use Rattle.card.specs.declared.Asked.{Asked}
+use Rattle.card.specs.declared.NoAnswer.{NoAnswer}
 use Rattle.card.specs.Examining.{is_link, heard, examined_frame, examined_verdict, examined}
 use Rattle.tender.proofs.Lengths.{Short, Holds, nothing_kept, next_short, carried_kept}
 use Rattle.fields.specs.declared.Identity.{Identity}
@@ -70,30 +71,27 @@ image_address image o =
     (λ _. omega arith)
 
 -- a frame heard has at most 252 user octets
-abbrev ShortHeard : Examined → Type 0
-ShortHeard x = Short x.user
-
-none_short : Short (kept_of [])
-unfolding kept_of
-none_short = omega arith
+abbrev pub ShortHeard : Result Asked NoAnswer → Type 0
+ShortHeard (Ok asked) = Short asked.user
+ShortHeard (Err why) = Unit {0}
 
 asked_short : (asked : Option Service) (user : List ℕ) → length user ≤ 252 → ShortHeard (heard asked user)
 unfolding kept_of
-asked_short None user few = none_short
+asked_short None user few = tt
 asked_short (Some service) user few = few
 
 of_run : (image run : List ℕ) (wrong : Bool) (v : Verdict) → judge_marked sapr wrong run ≡ v → ShortHeard (examined_verdict image v)
 unfolding examined_frame
-of_run image run wrong (refused fault) e = none_short
+of_run image run wrong (refused fault) e = tt
 of_run image run wrong (sound (fixed c a)) e =
-    either ShortHeard (not (is_link (identity_found image) (record { 0 = a }))) (λ _. none_short) (λ _. asked_short (offered form.Fixed c) [] (omega arith))
+    either ShortHeard (not (is_link (identity_found image) (record { 0 = a }))) (λ _. tt) (λ _. asked_short (offered form.Fixed c) [] (omega arith))
 of_run image run wrong (sound (variable c a user)) e =
-    either ShortHeard (not (is_link (identity_found image) (record { 0 = a }))) (λ _. none_short) (λ _. asked_short (offered form.Variable c) user (user_octets run c a user (sound_unmarked sapr run wrong _ e).1).fits)
+    either ShortHeard (not (is_link (identity_found image) (record { 0 = a }))) (λ _. tt) (λ _. asked_short (offered form.Variable c) user (user_octets run c a user (sound_unmarked sapr run wrong _ e).1).fits)
 
-pub heard_short : (c : Collector) (image : List ℕ) → Short (examined c image).user
+pub heard_short : (c : Collector) (image : List ℕ) → ShortHeard (examined c image)
 unfolding examined verdict_of
 heard_short c image =
-    either (λ (v : Verdict). ShortHeard (examined_verdict image v)) (is_overfull c) (λ _. none_short) (λ _. of_run image (run_of c) c.marked (judge_marked sapr c.marked (run_of c)) refl)
+    either (λ (v : Verdict). ShortHeard (examined_verdict image v)) (is_overfull c) (λ _. tt) (λ _. of_run image (run_of c) c.marked (judge_marked sapr c.marked (run_of c)) refl)
 
 -- at power-on
 plain_written : (c : Control) (address : LinkAddress) → address.0 < 65536 → CanWrite (plain c address)

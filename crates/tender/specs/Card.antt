@@ -1,6 +1,6 @@
 -- Any card of a profile: how it powers on, and what a character and a gap do to it, on the card's types; and ours, which is what the contracts of the crate
 -- `card` say (`Tied`). The profile is given with the characters; a gap does not ask for it. Assumes nothing.
-use Rattle.std.specs.Prelude.{ℕ, List, ◌≡◌, length, take, replicate}
+use Rattle.std.specs.Prelude.{ℕ, List, ◌≡◌, length, take, replicate, Ok}
 use Rattle.octets.specs.Over.{laid_in}
 use Rattle.octets.specs.declared.Kept.{Kept}
 use Rattle.frame.specs.declared.Service.{Service}
@@ -9,7 +9,6 @@ use Rattle.profile.specs.Profile.{CharacterIn}
 use Rattle.history.specs.History.{Event, Stepped, Machine, answers, after, fed}
 use Rattle.deeds.specs.declared.Order.{Order}
 use Rattle.card.specs.declared.Card.{Card}
-use Rattle.card.specs.declared.Finding.TheVariants.{Asks}
 use Rattle.card.specs.State.{card_at_power_on, with_character}
 use Rattle.card.specs.Examining.{examined}
 use Rattle.card.specs.Gap.{gapped}
@@ -67,7 +66,7 @@ received m card run loan = m.gap (fed m card run) loan
 
 -- the run is examined, and a service for this card is heard, with these user octets
 abbrev pub Heard : Card → Loan → Service → Kept → Type 0
-Heard card loan service user = examined card.collector loan.image ≡ record { finding = Asks service; user = user }
+Heard card loan service user = examined card.collector loan.image ≡ Ok (record { service = service; user = user })
 
 -- ours: the definition
 abbrev pub seen_of : gap.Outcome → List ℕ → Seen

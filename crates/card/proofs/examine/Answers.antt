@@ -6,10 +6,10 @@ use borrow.Author.Rules.{rules}
 use Rattle.card.proofs.examine.Goals as goal
 
 pub returns-then-collector-gt-LONGEST : goal.returns-then-collector-gt-LONGEST
-returns-then-collector-gt-LONGEST c = c.found.ensures ∙ overfull_examined _ _ (search rules)
+returns-then-collector-gt-LONGEST c = overfull_examined _ _ (search rules)
 
 pub returns-then-collector : goal.returns-then-collector
-returns-then-collector c = c.found-then-collector.ensures ∙ marked_examined _ _ _ (search rules) (search rules) (search rules) c.fault_of_marked.ensures
+returns-then-collector c = marked_examined _ _ _ (search rules) (search rules) (search rules) c.fault_of_marked.ensures
 
 pub returns : goal.returns
 returns c = c.examine_run.ensures ∙ run_examined _ _ _ (search rules) (search rules) c.part.ensures

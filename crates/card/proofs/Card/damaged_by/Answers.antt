@@ -3,10 +3,10 @@
 use Rattle.card.specs.State.{damaged_by}
 use Rattle.card.proofs.Card.damaged_by.Goals as goal
 
-pub returns-then-not-is_damaged : goal.returns-then-not-is_damaged
+pub returns-then-is_damaged : goal.returns-then-is_damaged
 unfolding damaged_by
-returns-then-not-is_damaged c = rw (← c.is_damaged.ensures, c.if-not-is_damaged.true)
+returns-then-is_damaged c = rw (← c.is_damaged.ensures, c.if-is_damaged.true, c.new.ensures, c.one_more.ensures)
 
-pub returns : goal.returns
+pub returns-else-is_damaged : goal.returns-else-is_damaged
 unfolding damaged_by
-returns c = rw (← c.is_damaged.ensures, c.if-not-is_damaged.false, c.new.ensures, c.one_more.ensures)
+returns-else-is_damaged c = rw (← c.is_damaged.ensures, c.if-is_damaged.false)
