@@ -41,6 +41,11 @@ pub enum Call {
     Why,
 }
 
+// The longest image that an I may have, and the most octets that a B may lend.
+const LONGEST_IMAGE: u32 = 65_600;
+
+const MOST_ROOM: u16 = 300;
+
 // A 2-octet length, big-endian.
 #[tactic(auto, unfolding(crate::specs::Input::length_of2))]
 pub fn length_of_2(read: &[u8], at: u8) -> u16
@@ -146,7 +151,7 @@ pub fn judge_run(read: &[u8]) -> Run
 fn image_size(read: &[u8]) -> usize
     ensures { result ≡ (when ltb (length read.now) 4 then 4 else when ltb 65600 (length_of3 read.now 1) then 4 else 4 + length_of3 read.now 1) }
 {
-    if read.len() < 4 || 65600 < length_of_3(read, 1) {
+    if read.len() < 4 || LONGEST_IMAGE < length_of_3(read, 1) {
         4
     } else {
         4 + length_of_3(read, 1) as usize
@@ -191,9 +196,9 @@ fn whole_call(profile: Profile, read: &[u8]) -> Call
     ensures { result ≡ whole_call profile read.now }
 {
     match octets::octet_at(read, 0) {
-        b'I' if length_of_3(read, 1) <= 65600 => Call::Image,
+        b'I' if length_of_3(read, 1) <= LONGEST_IMAGE => Call::Image,
         b'C' => Call::Clock,
-        b'B' if length_of_2(read, 1) <= 300 => Call::Room,
+        b'B' if length_of_2(read, 1) <= MOST_ROOM => Call::Room,
         b'O' => Call::Octets,
         b'E' => Call::ElevenBits,
         b'P' if matches!(profile, Profile::Eleven) && are_bits(octets::part(read, 3, read.len())) =>
