@@ -19,14 +19,14 @@ use Rattle.deeds.specs.declared.Order.TheVariants.{NoOrder, SetClock, SetDates}
 use Rattle.waiting.specs.Collected.{messages_collected}
 use Rattle.link.specs.State.{data_reply}
 use Rattle.card.specs.declared.Card.{Card}
-use Rattle.why.specs.declared.Why.TheVariants.{Named}
+use Rattle.std.specs.Prelude.{Ok}
 use Rattle.why.specs.Asking.{why_of}
 use Rattle.tender.specs.Card.{Loan, Seen, GapCall, no_time}
 use Rattle.tender.specs.Rules.{own_address, ack, Replies, Afresh, replies_wait, request_in, point_in, WaitingRow, waiting_rows}
 
 -- a message is named by a rule, nothing waits, and a fresh data frame with it is heard
 pub record Sent (card : Card) (loan : Loan) (user : Kept) (bit : ℕ) (rule : Rule) : Type 0 where
-  pub named : why_of card.link.session loan.image loan.clock (octets_of user) ≡ Named rule
+  pub named : why_of card.link.session loan.image loan.clock (octets_of user) ≡ Ok rule
   pub nothing_waits_law : replies_wait card ≡ false
   pub afresh : Afresh card loan (UserData bit) user bit
 

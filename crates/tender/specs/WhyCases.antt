@@ -8,10 +8,10 @@ use Rattle.rules.specs.declared.Session.{Session}
 use Rattle.rules.specs.declared.Session.TheVariants.{Closed, Open}
 use Rattle.rules.specs.declared.Rule.{Rule}
 use Rattle.rules.specs.declared.Rule.TheVariants.{Marked, UnknownType, NoSession, UnknownPoint, OtherSession, Shape, Address, Objects, ReadingLabel, ReadingRange, NoReading, EventLabel, EventRange, NoEvent, ClockUnset, NoDates, TimeLabel, WrongPassword, Accepted}
-use Rattle.why.specs.declared.Why.{Why}
-use Rattle.why.specs.declared.Why.TheVariants.{ImageUnsound, MessageLength, Named}
+use Rattle.std.specs.Prelude.{Ok, Err}
+use Rattle.why.specs.declared.Unasked.TheVariants.{ImageUnsound, MessageLength}
 use Rattle.why.specs.Naming.{place_of}
-use Rattle.why.specs.Asking.{why_of}
+use Rattle.why.specs.Asking.{Why, why_of}
 use Rattle.why.specs.Stated.{Holds}
 use Rattle.tender.specs.Rules.{collected_after}
 
@@ -25,8 +25,8 @@ pub record Case : Type 0 where
 
 -- the first of them is named; if there is none, that the message is accepted
 abbrev pub first_holding : List Rule → Why
-first_holding [] = Named Accepted
-first_holding (rule ∷ rules) = Named rule
+first_holding [] = Ok Accepted
+first_holding (rule ∷ rules) = Ok rule
 
 abbrev pub answer_to : Case → Why
 answer_to c = why_of c.session c.image c.clock c.message
@@ -138,12 +138,12 @@ edge image m answer = record { image = image; message = m; answer = answer }
 
 abbrev pub edges : List Edge
 edges =
-    edge two_points (100 ∷ 0 ∷ 5 ∷ 1 ∷ 0 ∷ []) MessageLength
-    ∷ edge two_points (message 100 0 5 1 0 []) (Named Accepted)
-    ∷ edge two_points (message 100 0 5 1 0 (replicate 246 0)) (Named Shape)
-    ∷ edge two_points (message 100 0 5 1 0 (replicate 247 0)) MessageLength
-    ∷ edge [] (100 ∷ 0 ∷ 5 ∷ 1 ∷ 0 ∷ []) ImageUnsound
-    ∷ edge [] (message 100 0 5 1 0 (replicate 247 0)) ImageUnsound
+    edge two_points (100 ∷ 0 ∷ 5 ∷ 1 ∷ 0 ∷ []) (Err MessageLength)
+    ∷ edge two_points (message 100 0 5 1 0 []) (Ok Accepted)
+    ∷ edge two_points (message 100 0 5 1 0 (replicate 246 0)) (Ok Shape)
+    ∷ edge two_points (message 100 0 5 1 0 (replicate 247 0)) (Err MessageLength)
+    ∷ edge [] (100 ∷ 0 ∷ 5 ∷ 1 ∷ 0 ∷ []) (Err ImageUnsound)
+    ∷ edge [] (message 100 0 5 1 0 (replicate 247 0)) (Err ImageUnsound)
     ∷ []
 
 -- the first is named
