@@ -2,7 +2,7 @@
 -- is asked about, sent in a fresh data frame while nothing waits, and then the next reply is collected. That the named rule holds and no earlier one does is stated in `why/specs/Stated`.
 -- They shut out a card that gives another rule's cause, or P/N 1 for a refusal by cause; one that sends the mirror of another message, or another reply before it; one that refuses what is
 -- named accepted, or does what is named refused; one that opens the session of another point, or gives another order. Assumes nothing.
-use Rattle.std.specs.Prelude.{ℕ, ◌≤◌, false, List, [], ◌∷◌, ◌++◌, ◌≡◌, length, get_or, drop, replicate}
+use Rattle.std.specs.Prelude.{ℕ, ◌≤◌, false, List, [], ◌∷◌, ◌++◌, ◌≡◌, length, get_or, drop, replicate, Ok}
 use Rattle.octets.specs.Bits.{bits◌to◌of◌}
 use Rattle.octets.specs.declared.Kept.{Kept}
 use Rattle.octets.specs.Keeping.{octets_of}
@@ -19,7 +19,6 @@ use Rattle.deeds.specs.declared.Order.TheVariants.{NoOrder, SetClock, SetDates}
 use Rattle.waiting.specs.Collected.{messages_collected}
 use Rattle.link.specs.State.{data_reply}
 use Rattle.card.specs.declared.Card.{Card}
-use Rattle.std.specs.Prelude.{Ok}
 use Rattle.why.specs.Asking.{why_of}
 use Rattle.tender.specs.Card.{Loan, Seen, GapCall, no_time}
 use Rattle.tender.specs.Rules.{own_address, ack, Replies, Afresh, replies_wait, request_in, point_in, WaitingRow, waiting_rows}

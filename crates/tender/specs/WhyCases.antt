@@ -1,6 +1,6 @@
 -- Messages and the rules that hold of them: each rule alone, or with those that it brings along, and beside its neighbour where one message can break both. The first is named. So no
 -- rule is dead, and none hides another; and both sides of the two refusals. Assumes nothing.
-use Rattle.std.specs.Prelude.{ℕ, ◌+◌, Bool, true, false, ◌||◌, List, [], ◌∷◌, ◌++◌, map, ◌≡◌, eqb, get_or, replicate}
+use Rattle.std.specs.Prelude.{ℕ, ◌+◌, Bool, true, false, ◌||◌, List, [], ◌∷◌, ◌++◌, map, ◌≡◌, eqb, get_or, replicate, Ok, Err}
 use Rattle.history.specs.History.{Each}
 use Rattle.octets.specs.declared.Kept.{Kept}
 use Rattle.octets.specs.Keeping.{octets_of, kept_of}
@@ -8,7 +8,6 @@ use Rattle.rules.specs.declared.Session.{Session}
 use Rattle.rules.specs.declared.Session.TheVariants.{Closed, Open}
 use Rattle.rules.specs.declared.Rule.{Rule}
 use Rattle.rules.specs.declared.Rule.TheVariants.{Marked, UnknownType, NoSession, UnknownPoint, OtherSession, Shape, Address, Objects, ReadingLabel, ReadingRange, NoReading, EventLabel, EventRange, NoEvent, ClockUnset, NoDates, TimeLabel, WrongPassword, Accepted}
-use Rattle.std.specs.Prelude.{Ok, Err}
 use Rattle.why.specs.declared.Unasked.TheVariants.{ImageUnsound, MessageLength}
 use Rattle.why.specs.Naming.{place_of}
 use Rattle.why.specs.Asking.{Why, why_of}
