@@ -25,8 +25,8 @@ from sources import clauses, functions, impls
 CRATES, CONTRACTS, READING = ROOT / "crates", ROOT / "docs" / "CONTRACTS.md", ROOT / "docs" / "READING.md"
 README, WHY, STORED = ROOT / "README.md", ROOT / "docs" / "WHY.md", CRATES / "explain"
 EXAMPLES = ((README, ("explain.txt", "active-energy.txt", "autumn-hour.txt", "event-names.txt", "eleven-bits.txt", "why.txt")), (WHY, ("no-session.txt",)))
-WORKED_OUT = ("fields/specs/working/Key", "image/specs/working/Keys", "choice/specs/working/Keys", "faults/specs/working/Walking",
-              "names/specs/working/Pass")
+WORKED_OUT = ("fields/specs/working/Key", "fields/specs/working/Standing", "image/specs/working/Keys", "choice/specs/working/Keys",
+              "link/specs/working/Counting", "faults/specs/working/Walking", "names/specs/working/Pass")
 PROGRAMS = ("input", "stream", "printing", "turns", "driving")
 BESIDES = "## What is said besides"
 SAYS_NOTHING = ("Unit {0}", "⊤")

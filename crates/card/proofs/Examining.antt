@@ -1,8 +1,8 @@
--- What a run is to this card, of a collector: by whether it is overfull, by its mark; from the empty collector on the run alone matters.
+-- What a run is to this card, of a collector: by whether it is overfull, by its mark; from the empty collector on the run alone matters; and what is heard.
 -- By the tests of the definition. Assumes nothing.
-use Rattle.std.specs.Prelude.{Err}
+use Rattle.std.specs.Prelude.{Option, Some, Ok, Err}
 use Prim.Native.Nat.{ℕ, ◌≤◌, ◌<◌}
-use mathlib.Core.List.{List}
+use mathlib.Core.List.{List, []}
 use mathlib.Core.Bool.{true, false}
 use mathlib.Core.Path.{◌≡◌, ap}
 use native.Mathlib.Omega.{arith}
@@ -11,6 +11,11 @@ use borrow.Author.Tests.{lt-ltb, le-ltb}
 use lib.Dec.{ltb}
 use lib.ListN.{length, take, drop}
 use Rattle.octets.specs.Choice.{when◌then◌else◌}
+use Rattle.octets.specs.declared.Kept.{Kept}
+use Rattle.octets.specs.Keeping.{kept_of}
+use Rattle.octets.specs.Calls.{added}
+use Rattle.octets.proofs.Keeping.{added_more}
+use Rattle.frame.specs.declared.Service.{Service}
 use Rattle.frame.specs.declared.Fault.{Fault}
 use Rattle.frame.specs.declared.Fault.TheVariants.{Empty, Long, Parity}
 use Rattle.frame.specs.Family.{sapr}
@@ -23,7 +28,7 @@ use Rattle.collector.specs.Collecting.{emptied, is_overfull, run_of, verdict_of}
 use Rattle.collector.specs.Calls.{collected_all_in}
 use Rattle.collector.proofs.Collecting.{empty_verdict, marked_verdict, collected_verdict}
 use Rattle.card.specs.declared.NoAnswer.TheVariants.{Faulty}
-use Rattle.card.specs.Examining.{examined_verdict, examined}
+use Rattle.card.specs.Examining.{heard, examined_verdict, examined}
 
 module _ (image : List ℕ) (c : Collector) where
   pub overfull_examined : 261 < c.length → Err (Faulty Long) ≡ examined c image
@@ -48,3 +53,8 @@ module _ (image : List ℕ) (c : Collector) where
 pub run_only : (p : Profile) (run : List (CharacterIn p)) (image : List ℕ) → examined (collected_all_in p emptied run) image ≡ examined_verdict image (judge_in p sapr run)
 unfolding examined
 run_only p run image = ap (examined_verdict image) (collected_verdict p run sapr)
+
+-- a service that is asked for is heard, with all of the user octets
+pub heard_so : {asked : Option Service} {service : Service} {kept : Kept} (user : List ℕ) → asked ≡ Some service → length user ≤ 252
+    → kept ≡ added (kept_of []) user → Ok (record { service = service; user = kept }) ≡ heard asked user
+heard_so user e few k = rw (e, k, added_more [] user (omega arith))

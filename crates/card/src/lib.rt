@@ -127,7 +127,6 @@ fn examine_frame(
     }
 }
 
-#[tactic(auto, using(octets::proofs::Keeping::added_more))]
 fn hear(asked: Option<Service>, user: &[u8]) -> Result<Asked, NoAnswer>
     requires { length user.now ≤ 252 }
     ensures { result ≡ heard asked user.now }

@@ -1,0 +1,8 @@
+-- `is_link` answers whether a frame is for the card that an image describes.
+-- By the first record, if there is one. Assumes nothing.
+use native.Mathlib.Omega.{arith}
+use Rattle.std.proofs.lemmas.Grind.{common_steps}
+use Rattle.card.proofs.is_link.Goals as goal
+
+pub returns : goal.returns
+returns c = grind (arith, common_steps)
