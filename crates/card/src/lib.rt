@@ -241,6 +241,8 @@ fn refused(number: u8, card: Card) -> Gone
     }
 }
 
+// The buffer is a slice with a `requires` here and in the two functions below, and no `&mut [u8; 261]`: the lender is not told the length of an array that it
+// lends out of a slice, so that each of the three would have to ensure it.
 #[tactic(auto, unfolding(crate::specs::Gap::after_examining), using(crate::proofs::Gap::refused_gap))]
 fn after_examining(
     card: Card,

@@ -1,6 +1,7 @@
 -- What is written into a buffer is the frame of the definition, in one part or in several.
 -- By the laws of one list written over another. Assumes nothing.
-use Rattle.std.proofs.Common.{◌≡◌, ℕ, suc, ◌+◌, ◌%◌, ◌<◌, ◌≤◌, Bool, List, [], ◌∷◌, ◌++◌, length, get_or, sym, refl, ap, ◌∙◌, arith, length-append, le-ltb, lt-ltb}
+use Rattle.std.proofs.Common.{◌≡◌, ℕ, suc, ◌+◌, ◌%◌, ◌<◌, ◌≤◌, Bool, List, [], ◌∷◌, ◌++◌, length, get_or, sym, refl, ap, ◌∙◌, arith, take, drop, append_assoc, length-append, length-take-le, le-ltb, lt-ltb}
+use Rattle.std.proofs.lemmas.List.{take-append-drop, drop-append-le}
 use Rattle.octets.specs.Numbers.{low_octets}
 use Rattle.octets.specs.Sum.{checksum}
 use Rattle.octets.specs.Over.{laid_in, Does}
@@ -13,6 +14,7 @@ use Rattle.frame.specs.declared.Reply.{Reply}
 use Rattle.frame.specs.declared.WriteError.{WriteError}
 use Rattle.frame.specs.declared.WriteError.TheVariants.{Short}
 use Rattle.std.specs.Prelude.{Result, Ok, Err, ◌⊎◌}
+use Rattle.std.specs.Array.{IsFirstChunk}
 use mathlib.Core.Logic.{inl, inr}
 use Rattle.frame.specs.Family.{sapr}
 use Rattle.frame.specs.Frame.{Frame, fixed, variable, body_of, start_with, written}
@@ -73,16 +75,37 @@ module _ (c address : ℕ) where
             left_so = laid_more buffer before end left₀ (length user + 7) front p (omega arith) (omega arith) ∙ ap (λ (l : List ℕ). laid_in buffer (before ++ l)) e;
           }
 
--- a buffer that is too short, and a reply that stands in one
+-- what is laid into the first 261 octets of a buffer is laid into the buffer
+pub laid_whole : {A : Type 0} {r : A} (answer : A) (buffer octets : List ℕ) {first left : List ℕ} → IsFirstChunk buffer first 261 → length left ≡ 261
+    → Does answer (laid_in first octets) r left → Does answer (laid_in buffer octets) r (left ++ drop 261 buffer)
+laid_whole answer buffer octets {first} {left} chunk whole d =
+    let n = length octets in
+    let first_part : length (take 261 buffer) ≡ 261 = length-take-le 261 buffer chunk.enough in
+    let e : left ≡ laid_in (take 261 buffer) octets = d.left_so ∙ ap (λ (l : List ℕ). laid_in l octets) chunk.same in
+    let few : n ≤ 261 = omega (arith, whole, ap length e, length-append octets (drop n (take 261 buffer))) in
+    record {
+      answers = d.answers;
+      left_so = ap (λ (l : List ℕ). l ++ drop 261 buffer) e
+          ∙ append_assoc octets (drop n (take 261 buffer)) (drop 261 buffer)
+          ∙ ap (λ (l : List ℕ). octets ++ l)
+          (sym (drop-append-le n (take 261 buffer) (drop 261 buffer) (omega arith)) ∙ ap (λ (l : List ℕ). drop n l) (take-append-drop 261 buffer));
+    }
+
+-- a buffer that is too short, a reply that stands in its place, and a buffer that is not too short
 pub short_refused : (buffer octets : List ℕ) → length buffer < 261 → Does (answer_to buffer octets) (left_of buffer octets) (Err Short) buffer
 unfolding answer_to left_of
 short_refused buffer octets h = record { answers = rw (lt-ltb _ _ h); left_so = rw (lt-ltb _ _ h) }
 
-pub reply_stands : {left : List ℕ} {n : ℕ} (buffer : List ℕ) (reply : Reply) (c : Control) → reply.control ≡ c → 261 ≤ length buffer
+pub reply_stands : {left : List ℕ} {n : ℕ} (buffer : List ℕ) (reply : Reply) (c : Control) → reply.control ≡ c
     → Stands buffer (frame_as c reply.link.0 (octets_of reply.user)) n left
-    → Does (answer_to buffer (reply_octets reply)) (left_of buffer (reply_octets reply)) (Ok n) left
-unfolding reply_octets reply_frame answer_to left_of
-reply_stands buffer reply c e h s = rw e (record { answers = rw (le-ltb _ _ h, s.answers); left_so = rw (le-ltb _ _ h) s.left_so })
+    → Does (length (reply_octets reply)) (laid_in buffer (reply_octets reply)) n left
+unfolding reply_octets reply_frame
+reply_stands buffer reply c e s = rw e s
+
+pub answer_whole : (buffer octets : List ℕ) {left : List ℕ} {n : ℕ} → 261 ≤ length buffer → Does (length octets) (laid_in buffer octets) n left
+    → Does (answer_to buffer octets) (left_of buffer octets) (Ok n) left
+unfolding answer_to left_of
+answer_whole buffer octets room d = record { answers = rw (le-ltb _ _ room, d.answers); left_so = rw (le-ltb _ _ room) d.left_so }
 
 -- every reply but data is of the fixed form
 pub fixed_reply : (c : Control) (a : ℕ) (user : List ℕ) → (c ≡ Ack) ⊎ ((c ≡ Nack) ⊎ ((c ≡ NothingToGive) ⊎ (c ≡ Status)))

@@ -282,27 +282,34 @@ impl Reply {
 }
 
 // Writes a reply into the first octets of the buffer, and answers how many they are.
-#[tactic(auto, using(crate::proofs::Writing::short_refused, crate::proofs::Writing::reply_stands), unfolding(octets::specs::Keeping::octets_of))]
 pub fn write(buffer: &mut [u8], reply: Reply) -> Result<u16, WriteError>
     ensures { Does (answer_to buffer.old (reply_octets reply)) (left_of buffer.old (reply_octets reply)) result buffer.new }
 {
-    if buffer.len() < Judged::LONGEST {
+    let Some(space) = buffer.first_chunk_mut::<{ Judged::LONGEST }>() else {
         return Err(WriteError::Short);
-    }
+    };
+    Ok(write_into(space, reply))
+}
+
+// The same, where the longest frame has room. The clause `whole` is for the lender: it is not told the length of an array that it lends out of a slice.
+fn write_into(space: &mut [u8; Judged::LONGEST], reply: Reply) -> u16
+    ensures stands { Does (length (reply_octets reply)) (laid_in space.old (reply_octets reply)) result space.new }
+    ensures whole { length space.new ≡ 261 }
+{
     let control = reply.control.octet();
     let link = reply.link.0;
     match reply.control {
         Control::Data => {
             let user = reply.user;
-            Ok(write_variable(
-                buffer,
+            write_variable(
+                space,
                 control,
                 link,
                 user.as_slice(),
-            ))
+            )
         }
         Control::Ack | Control::Nack | Control::NothingToGive | Control::Status => {
-            Ok(write_fixed(buffer, control, link))
+            write_fixed(space, control, link)
         }
     }
 }
@@ -315,14 +322,13 @@ fn control_and_address(control: u8, address: u16) -> [u8; 3]
     [control, a[0], a[1]]
 }
 
-fn write_fixed(buffer: &mut [u8], control: u8, address: u16) -> u16
-    requires { 261 ≤ length buffer.old }
-    ensures { Does (length (written sapr (fixed control address))) (laid_in buffer.old (written sapr (fixed control address))) result buffer.new }
+fn write_fixed(space: &mut [u8; Judged::LONGEST], control: u8, address: u16) -> u16
+    ensures { Does (length (written sapr (fixed control address))) (laid_in space.old (written sapr (fixed control address))) result space.new }
 {
     let body = control_and_address(control, address);
     let sum = octets::checksum(&body);
     octets::put(
-        buffer,
+        space,
         0,
         &[
             Judged::START_FIXED,
@@ -337,26 +343,22 @@ fn write_fixed(buffer: &mut [u8], control: u8, address: u16) -> u16
 }
 
 #[tactic(auto, using(crate::proofs::Writing::variable_stands))]
-fn write_variable(buffer: &mut [u8], control: u8, address: u16, user: &[u8]) -> u16
-    requires { (261 ≤ length buffer.old) × (length user.now ≤ 252) }
-    ensures { Does (length (written sapr (variable control address user.now))) (laid_in buffer.old (written sapr (variable control address user.now))) result buffer.new }
+fn write_variable(space: &mut [u8; Judged::LONGEST], control: u8, address: u16, user: &[u8]) -> u16
+    requires { length user.now ≤ 252 }
+    ensures { Does (length (written sapr (variable control address user.now))) (laid_in space.old (written sapr (variable control address user.now))) result space.new }
 {
-    write_front(buffer, control, address, user);
-    octets::put(
-        buffer,
-        user.len() + 7,
-        &variable_end(control, address, user),
-    );
+    write_front(space, control, address, user);
+    octets::put(space, user.len() + 7, &variable_end(control, address, user));
     (user.len() + Judged::FRAMING) as u16
 }
 
 // 68 L L 68 C A A and the user octets.
-fn write_front(buffer: &mut [u8], control: u8, address: u16, user: &[u8])
-    requires { (261 ≤ length buffer.old) × (length user.now ≤ 252) }
-    ensures { buffer.new ≡ laid_in buffer.old (start_with sapr (variable control address user.now) ++ body_of sapr (variable control address user.now)) }
+fn write_front(space: &mut [u8; Judged::LONGEST], control: u8, address: u16, user: &[u8])
+    requires { length user.now ≤ 252 }
+    ensures { space.new ≡ laid_in space.old (start_with sapr (variable control address user.now) ++ body_of sapr (variable control address user.now)) }
 {
-    octets::put(buffer, 0, &variable_head(control, address, user));
-    octets::put(buffer, 7, user);
+    octets::put(space, 0, &variable_head(control, address, user));
+    octets::put(space, 7, user);
 }
 
 // 68 L L 68 C A A.

@@ -1,8 +1,7 @@
 -- `is_link` answers whether a frame is for the card that an image describes.
 -- By the first record, if there is one. Assumes nothing.
-use native.Mathlib.Omega.{arith}
-use Rattle.std.proofs.lemmas.Grind.{common_steps}
+use borrow.Author.Rules.{rules}
 use Rattle.card.proofs.is_link.Goals as goal
 
 pub returns : goal.returns
-returns c = grind (arith, common_steps)
+returns c = search rules
