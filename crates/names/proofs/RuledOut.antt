@@ -9,6 +9,7 @@ use borrow.Author.Tests.{eq-eqb}
 use lib.ListN.{length}
 use Rattle.octets.proofs.Outcome.{RuledOut, Place, lent, never}
 use Rattle.names.specs.declared.Code.{Code}
+use Rattle.names.specs.declared.Entries.{Entries}
 use Rattle.std.specs.Prelude.{Some, None, Ok, Err}
 use Rattle.names.specs.declared.Fault.{Fault}
 use Rattle.names.specs.declared.Fault.TheVariants.{Cut, Name, Order}
@@ -29,6 +30,7 @@ use Rattle.names.proofs.check.Reads as check
 use Rattle.names.proofs.look_up.Reads as look_up
 use Rattle.names.proofs.name_at.Reads as name_at
 use Rattle.names.proofs.name.Reads as name
+use Rattle.names.proofs.entries_of.Reads as entries_of_call
 
 abbrev found : Which → ℕ → ℕ → ℕ → Found
 found book entry at many = record { book = book; entry = entry; at = at; many = many }
@@ -202,3 +204,12 @@ module _ (κs : Lfts 1) (x y z : Place) where
   name_none chosen italian wanted q octet others s p =
       let e : octet ∷ others ≡ [] = p ∙ ap (λ (l : LookedUp). name_of_shown (shown_of l) chosen italian) q in
       never (omega (arith, ap length e))
+
+module _ (κs : Lfts 1) (x : Place) (book : List ℕ) (r : Entries) where
+  -- the version taken for the first entry's SPA
+  entries_of_version : r.at ≡ 0 → RuledOut (entries_of_call.Post κs) (lent x book, tt) r
+  entries_of_version e s p = omega (arith, p.1)
+
+  -- the entries of other octets than the book's
+  entries_of_other : (r.book.now ≡ book → ⊥) → RuledOut (entries_of_call.Post κs) (lent x book, tt) r
+  entries_of_other n s p = n p.0
