@@ -10,7 +10,7 @@ def functions(lines):
     """(name, line number from 0, whether it is public) of each function; a method is `Type::name`."""
     owner = ""
     for at, line in enumerate(lines):
-        if found := re.match(r"impl (\w+) \{", line):
+        if found := re.match(r"impl(?:<.*?>)? (\w+)(?:<.*>)? \{", line):
             owner = found.group(1) + "::"
         elif line == "}":
             owner = ""

@@ -12,7 +12,7 @@ use Rattle.names.specs.declared.Code.{Code}
 use Rattle.names.specs.declared.Entries.{Entries}
 use Rattle.std.specs.Prelude.{Some, None, Ok, Err}
 use Rattle.names.specs.declared.Fault.{Fault}
-use Rattle.names.specs.declared.Fault.TheVariants.{Cut, Name, Order}
+use Rattle.names.specs.declared.Fault.TheVariants.{Version, Cut, Name, Order}
 use Rattle.names.specs.declared.Found.{Found}
 use Rattle.names.specs.declared.Which.{Which}
 use Rattle.names.specs.declared.Which.TheVariants as which
@@ -26,6 +26,7 @@ use Rattle.names.proofs.Order.{not_sound, not_itself}
 use Rattle.names.proofs.Books.{sound_only, said_sound}
 use Rattle.names.proofs.EventNames.{entry_shown, apart, checked_first, found_exactly}
 use Rattle.names.proofs.Code.of_event.Reads as of_event
+use Rattle.names.proofs.Fault.number.Reads as number
 use Rattle.names.proofs.check.Reads as check
 use Rattle.names.proofs.look_up.Reads as look_up
 use Rattle.names.proofs.name_at.Reads as name_at
@@ -60,6 +61,15 @@ module _ (κs : Lfts 0) (spa octet : ℕ) where
   of_event_whole : 1 ≤ octet → RuledOut (of_event.Post κs) (spa, (octet, tt)) (code spa octet)
   unfolding code_of_event
   of_event_whole h s p = let e : octet ≡ octet / 2 % 128 = ap (λ (c : Code). c.spq) p in omega arith
+
+module _ (κs : Lfts 0) where
+  -- the faults counted from 0
+  number_zero : RuledOut (number.Post κs) (Version, tt) 0
+  number_zero s p = omega arith
+
+  -- the number of another fault
+  number_other : (fault other : Fault) → (number_of other ≡ number_of fault → ⊥) → RuledOut (number.Post κs) (fault, tt) (number_of other)
+  number_other fault other n s p = n p
 
 module _ (κs : Lfts 1) (x : Place) where
   -- a book said to be sound that is not, whatever it is
