@@ -26,7 +26,7 @@ def functions(lines):
     for at, line in enumerate(lines):
         if found := IMPL.match(line):
             owner, public = found.group(3) + "::", found.group(1) in traits
-        elif found := re.match(r"impl(?:<[^>]*>)? (\w+)(?:<[^>]*>)? \{", line):
+        elif found := re.match(r"impl(?:<.*?>)? (\w+)(?:<.*>)? \{", line):
             owner = found.group(1) + "::"
         elif line == "}":
             owner, public = "", False

@@ -292,6 +292,7 @@ pub fn write(buffer: &mut [u8], reply: Reply) -> Result<u16, WriteError>
 }
 
 // The same, where the longest frame has room. The clause `whole` is for the lender: it is not told the length of an array that it lends out of a slice.
+#[tactic(auto, unfolding(octets::specs::Keeping::octets_of))]
 fn write_into(space: &mut [u8; Judged::LONGEST], reply: Reply) -> u16
     ensures stands { Does (length (reply_octets reply)) (laid_in space.old (reply_octets reply)) result space.new }
     ensures whole { length space.new ≡ 261 }

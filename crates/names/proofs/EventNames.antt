@@ -24,7 +24,7 @@ use Rattle.names.specs.LookUp.{LookedUp, Shown, Refused, Chosen, Italian, Nothin
 use Rattle.names.specs.Answers.{book_number}
 use Rattle.names.specs.working.Pass.{entry_at}
 use Rattle.names.specs.EventNames.{LookUp, Right, Rises, code_at, InOrder, book_of, SoundBook, shown_for, CheckedFirst, Has, HasNot, AtMostOne, Finds, FoundExactly, OnlyLookUp, codes, NamesKept, translated, Names, Translated, Stands, InItsBook, NameShown}
-use Rattle.names.proofs.Entries.{entry_most}
+use Rattle.names.proofs.Standing.{entry_most}
 use Rattle.names.proofs.Places.{at_found, many_found, Numbered, find_numbered, found_numbered, missed, found_in}
 use Rattle.names.proofs.Shows.{by_shown, cut_is_name}
 use Rattle.names.proofs.Order.{not_itself}

@@ -7,7 +7,7 @@ use native.Mathlib.Omega.{arith}
 use lib.ListN.{length, get_or, take, drop, length-append, length-take, length-drop, take-append-drop, get_or-append}
 use lib.Seq.{take_at, drop_at, get_or-take}
 use Rattle.names.specs.Book.{size_of, walk, entries}
-use Rattle.names.proofs.Entries.{entries_none, entries_some}
+use Rattle.names.proofs.Standing.{entries_none, entries_some}
 
 laid_walk : (most : ℕ) (s : List ℕ) → length s ≤ most → flatten (walk most s) ≡ s
 unfolding walk flatten

@@ -1,4 +1,4 @@
-mod Entries
+mod Standing
 mod Turns
 mod Passes
 mod Places

@@ -10,7 +10,7 @@ use borrow.Author.Tests.{lt-ltb, le-ltb, ltb-true, ltb-false, eq-eqb, ne_eqb, eq
 use lib.Dec.{ltb, eqb}
 use lib.ListN.{length, get_or}
 use Rattle.octets.proofs.Choice.{either, flipped, not_both}
-use Rattle.names.proofs.Entries.{some_none}
+use Rattle.names.proofs.Standing.{some_none}
 use Rattle.names.specs.declared.Code.{Code}
 use Rattle.names.specs.declared.Fault.{Fault}
 use Rattle.names.specs.declared.Fault.TheVariants.{Cut, Name, Order}

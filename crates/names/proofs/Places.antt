@@ -19,7 +19,7 @@ use Rattle.names.specs.Codes.{code, same_code}
 use Rattle.names.specs.Book.{code_of, length_of, size_of, entries_of}
 use Rattle.names.specs.LookUp.{find_in, find, number_found, name_in}
 use Rattle.names.specs.working.Pass.{entry_at, entries_from}
-use Rattle.names.proofs.Entries.{entries_end, entries_more, length_of_law, name_there}
+use Rattle.names.proofs.Standing.{entries_end, entries_more, length_of_law, name_there}
 
 -- codes are the same by their parts
 pub same_code_law : (a b : Code) → same_code a b ≡ true → a ≡ b

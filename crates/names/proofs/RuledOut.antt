@@ -9,9 +9,10 @@ use borrow.Author.Tests.{eq-eqb}
 use lib.ListN.{length}
 use Rattle.octets.proofs.Outcome.{RuledOut, Place, lent, never}
 use Rattle.names.specs.declared.Code.{Code}
+use Rattle.names.specs.declared.Entries.{Entries}
 use Rattle.std.specs.Prelude.{Some, None, Ok, Err}
 use Rattle.names.specs.declared.Fault.{Fault}
-use Rattle.names.specs.declared.Fault.TheVariants.{Cut, Name, Order}
+use Rattle.names.specs.declared.Fault.TheVariants.{Version, Cut, Name, Order}
 use Rattle.names.specs.declared.Found.{Found}
 use Rattle.names.specs.declared.Which.{Which}
 use Rattle.names.specs.declared.Which.TheVariants as which
@@ -25,10 +26,12 @@ use Rattle.names.proofs.Order.{not_sound, not_itself}
 use Rattle.names.proofs.Books.{sound_only, said_sound}
 use Rattle.names.proofs.EventNames.{entry_shown, apart, checked_first, found_exactly}
 use Rattle.names.proofs.Code.of_event.Reads as of_event
+use Rattle.names.proofs.Fault.number.Reads as number
 use Rattle.names.proofs.check.Reads as check
 use Rattle.names.proofs.look_up.Reads as look_up
 use Rattle.names.proofs.name_at.Reads as name_at
 use Rattle.names.proofs.name.Reads as name
+use Rattle.names.proofs.entries_of.Reads as entries_of_call
 
 abbrev found : Which → ℕ → ℕ → ℕ → Found
 found book entry at many = record { book = book; entry = entry; at = at; many = many }
@@ -58,6 +61,15 @@ module _ (κs : Lfts 0) (spa octet : ℕ) where
   of_event_whole : 1 ≤ octet → RuledOut (of_event.Post κs) (spa, (octet, tt)) (code spa octet)
   unfolding code_of_event
   of_event_whole h s p = let e : octet ≡ octet / 2 % 128 = ap (λ (c : Code). c.spq) p in omega arith
+
+module _ (κs : Lfts 0) where
+  -- the faults counted from 0
+  number_zero : RuledOut (number.Post κs) (Version, tt) 0
+  number_zero s p = omega arith
+
+  -- the number of another fault
+  number_other : (fault other : Fault) → (number_of other ≡ number_of fault → ⊥) → RuledOut (number.Post κs) (fault, tt) (number_of other)
+  number_other fault other n s p = n p
 
 module _ (κs : Lfts 1) (x : Place) where
   -- a book said to be sound that is not, whatever it is
@@ -202,3 +214,12 @@ module _ (κs : Lfts 1) (x y z : Place) where
   name_none chosen italian wanted q octet others s p =
       let e : octet ∷ others ≡ [] = p ∙ ap (λ (l : LookedUp). name_of_shown (shown_of l) chosen italian) q in
       never (omega (arith, ap length e))
+
+module _ (κs : Lfts 1) (x : Place) (book : List ℕ) (r : Entries) where
+  -- the version taken for the first entry's SPA
+  entries_of_version : r.at ≡ 0 → RuledOut (entries_of_call.Post κs) (lent x book, tt) r
+  entries_of_version e s p = omega (arith, p.1)
+
+  -- the entries of other octets than the book's
+  entries_of_other : (r.book.now ≡ book → ⊥) → RuledOut (entries_of_call.Post κs) (lent x book, tt) r
+  entries_of_other n s p = n p.0

@@ -1,10 +1,11 @@
 #![tactic(auto)]
 // Books of event names for the handheld: a book is checked, and the name of an event's code is handed back as a part of one of two lent books.
 ghost use Rattle.std.specs.Prelude.{◌≡◌, ◌+◌, ◌≤◌, length};
-ghost use Rattle.names.specs.Codes.{code_of_event};
+ghost use Rattle.std.specs.Iterator.{YieldsFirst, item_count};
+ghost use Rattle.names.specs.Codes.{code, code_of_event};
 ghost use Rattle.names.specs.Book.{number_of, code_of, in_order, fault_of, checked};
 ghost use Rattle.names.specs.LookUp.{found_in, looked_up, name_shown, cut_from};
-ghost use Rattle.names.specs.working.Pass.{entry_at, passed};
+ghost use Rattle.names.specs.working.Pass.{entry_at, entries_from, judged, passed};
 
 // The code of an event: SPA and SPQ, the qualifier of seven bits. Codes are ordered by SPA, and with the same SPA by SPQ.
 #[derive(Clone, Copy, PartialEq, Eq, PartialOrd, Ord)]
@@ -55,10 +56,17 @@ pub struct Found {
 
 // An entry's number, and where its name lies, with how many octets.
 #[derive(Clone, Copy)]
-struct Place {
-    number: usize,
-    at: usize,
-    many: usize,
+pub struct Place {
+    pub number: usize,
+    pub at: usize,
+    pub many: usize,
+}
+
+// An entry of a book: its code and its place.
+#[derive(Clone, Copy)]
+pub struct Entry {
+    pub code: Code,
+    pub place: Place,
 }
 
 // The longest name.
@@ -125,6 +133,70 @@ fn fault_at(book: &[u8], at: usize, number: usize, before: Code) -> Option<Fault
     }
 }
 
+// The entries of a book from a place on, one behind the other, each as it is checked: by the number of the first, and the code of the one before.
+// One at fault is the last.
+#[derive(Clone, Copy)]
+pub struct Entries<'a> {
+    pub book: &'a [u8],
+    pub at: usize,
+    pub number: usize,
+    pub before: Code,
+    pub ghost counted: { number ≤ at },
+}
+
+// All entries of a book, which stand behind its version.
+pub fn entries_of(book: &[u8]) -> Entries
+    ensures { (result.book.now ≡ book.now) × (result.at ≡ 1) × (result.number ≡ 1) × (result.before ≡ code 0 0) }
+{
+    Entries {
+        book,
+        at: 1,
+        number: 1,
+        before: Code { spa: 0, spq: 0 },
+    }
+}
+
+impl<'a> Iterator for Entries<'a> {
+    type Item = Result<Entry, BookFault>;
+
+    ghost next_gives = { YieldsFirst (λ s. judged s.number s.at s.before (entries_from s.book.now s.at)) };
+
+    ghost remaining = { item_count (λ s. judged s.number s.at s.before (entries_from s.book.now s.at)) };
+
+    fn next(&mut self) -> Option<Result<Entry, BookFault>> {
+        let Entries {
+            book,
+            at,
+            number,
+            before,
+        } = *self;
+        if book.len() <= at {
+            return None;
+        }
+        if let Some(fault) = fault_at(book, at, number, before) {
+            self.at = book.len();
+            return Some(Err(BookFault {
+                fault,
+                entry: number,
+            }));
+        }
+        let code = code_at(book, at);
+        let many = book[at + 2] as usize;
+        let place = Place {
+            number,
+            at: at + 3,
+            many,
+        };
+        *self = Entries {
+            book,
+            at: at + 3 + many,
+            number: number + 1,
+            before: code,
+        };
+        Some(Ok(Entry { code, place }))
+    }
+}
+
 // The one pass over a book: it checks every entry, and keeps the place of the code's.
 fn pass(book: &[u8], wanted: Code) -> Result<Option<Place>, BookFault>
     ensures { result ≡ passed wanted book.now }
@@ -135,28 +207,10 @@ fn pass(book: &[u8], wanted: Code) -> Result<Option<Place>, BookFault>
             entry: 0,
         });
     }
-    let mut at = 1;
-    let mut number = 1;
-    let mut before = Code { spa: 0, spq: 0 };
     let mut found = None;
-    while at < book.len() {
-        if let Some(fault) = fault_at(book, at, number, before) {
-            return Err(BookFault {
-                fault,
-                entry: number,
-            });
-        }
-        let code = code_at(book, at);
-        let many = book[at + 2] as usize;
-        let place = Place {
-            number,
-            at: at + 3,
-            many,
-        };
-        found = found.or((code == wanted).then_some(place));
-        before = code;
-        at += 3 + many;
-        number += 1;
+    for entry in entries_of(book) {
+        let entry = entry?;
+        found = found.or((entry.code == wanted).then_some(entry.place));
     }
     Ok(found)
 }

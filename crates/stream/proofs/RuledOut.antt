@@ -6,6 +6,10 @@ use mathlib.Core.List.{List, [], ◌∷◌}
 use mathlib.Core.Path.{◌≡◌, refl, sym, ap, ◌∙◌}
 use native.Mathlib.Omega.{arith}
 use contract.Lifetimes.{Lfts}
+use denote.RattleType.{RattleType}
+use denote.Param.Laws.{Laws}
+use denote.Ref.{Bor, MutBor}
+use mir.Syntax.{Dict}
 use lib.ListN.{length, drop, length-take}
 use Rattle.std.specs.declared.io.Stdin.{Stdin}
 use Rattle.std.specs.declared.io.Stdout.{Stdout}
@@ -14,12 +18,24 @@ use Rattle.octets.specs.Calls.{fits_at}
 use Rattle.octets.proofs.Outcome.{RuledOut, RuledOutWith, Place, lent, lent_mut}
 use Rattle.stream.specs.declared.Window.{Window}
 use Rattle.stream.specs.declared.Texts.{Texts}
-use Rattle.stream.specs.Window.{count_of, seen_in, has_in}
+use Rattle.stream.specs.declared.Input.{Input}
+use Rattle.stream.specs.declared.Output.{Output}
+use Rattle.std.specs.Fn.{FnReturnsAt}
+use Rattle.stream.specs.Window.{count_of, seen_in, has_in, Filled}
+use Rattle.stream.specs.Texts.{added_to}
 use Rattle.stream.proofs.Window.seen.Reads as seen
 use Rattle.stream.proofs.Window.taken.Reads as taken
 use Rattle.stream.proofs.Window.filled.Reads as filled
 use Rattle.stream.proofs.Texts.out.Reads as out
 use Rattle.stream.proofs.Texts.tell.Reads as tell
+use Rattle.stream.proofs.Window.read.Reads as read
+use Rattle.stream.proofs.Input.seen.Reads as input_seen
+use Rattle.stream.proofs.Input.read.Reads as input_read
+use Rattle.stream.proofs.Input.take.Reads as input_take
+use Rattle.stream.proofs.Output.out.Reads as output_out
+use Rattle.stream.proofs.Output.tell.Reads as output_tell
+use Rattle.stream.specs.contracts.Window.read as reading
+use Rattle.stream.specs.contracts.Input.read as input_reading
 
 abbrev waiting : ℕ → Bool → Texts
 waiting count going = record { count = count; going = going }
@@ -67,11 +83,15 @@ module _ (κs : Lfts 1) (x y : Place) (a b c : ℕ) where
         → RuledOutWith (λ s. s.1.1.0.now) (filled.Post κs) (window 1 3, (input, (lent_mut x (a ∷ b ∷ c ∷ []), (size, tt)))) (window 0 2) (a ∷ b ∷ c ∷ [])
     filled_unmoved n s e p = n (cc)
 
+-- a window that is filled has no fewer octets
+lost : {space left : List ℕ} {w r : Window} {size : ℕ} → Filled space w size r left → count_of r < length (seen_in space w) → ⊥
+lost {space} {left} {w} {r} p fewer =
+    omega (arith, ap length p.first, length-take (length (seen_in space w)) (seen_in left r), length-take (count_of r) (drop r.from left))
+
 module _ (κs : Lfts 1) (input : Stdin) (x : Place) (space : List ℕ) (w r : Window) (size : ℕ) where
   -- what has not been taken left out: a window with fewer octets, whatever is read
   filled_lost : count_of r < length (seen_in space w) → RuledOut (filled.Post κs) (w, (input, (lent_mut x space, (size, tt)))) r
-  filled_lost fewer s p =
-      omega (arith, ap length p.first, length-take (length (seen_in space w)) (seen_in s.1.1.0.now r), length-take (count_of r) (drop r.from s.1.1.0.now))
+  filled_lost fewer s p = lost p fewer
 
   -- a window that reaches past the space
   filled_past : length space < r.to → RuledOut (filled.Post κs) (w, (input, (lent_mut x space, (size, tt)))) r
@@ -96,6 +116,53 @@ module _ (κs : Lfts 1) (input : Stdin) (x : Place) (space : List ℕ) (w r : Wi
     filled_changed : (left : List ℕ) → (left ≡ space → ⊥)
         → RuledOutWith (λ s. s.1.1.0.now) (filled.Post κs) (w, (input, (lent_mut x space, (size, tt)))) r left
     filled_changed left other s e p = other (sym e ∙ p.unchanged enough)
+
+-- read on, whatever says how many octets are needed
+module _ (F : RattleType) (laws : Laws F) (a b c d : Dict) (says : F.Denot) where
+  module _ (g : reading.F-Fn.Ghosts F) (κs : Lfts 2) (input : Stdin) (x : Place) (space : List ℕ) (w r : Window) where
+    -- what has not been taken left out of what is read on: a window with fewer octets
+    read_lost : count_of r < length (seen_in space w) → RuledOut (read.Post F laws g a b c d κs) (w, (input, (lent_mut x space, (says, tt)))) r
+    read_lost fewer s p = lost p.2 fewer
+
+    -- read on past the space
+    read_past : length space < r.to → RuledOut (read.Post F laws g a b c d κs) (w, (input, (lent_mut x space, (says, tt)))) r
+    read_past past s p = omega (arith, p.2.in_space, p.2.same_length)
+
+    -- another window where as many octets as are said stand there already
+    read_again : ((n : ℕ) → FnReturnsAt (reading.F-Fn-ghosts F g a b c d) says (seen_in space w) n → has_in space w n ≡ true) → (r ≡ w → ⊥)
+        → RuledOut (read.Post F laws g a b c d κs) (w, (input, (lent_mut x space, (says, tt)))) r
+    read_again enough other s p = other (p.2.same_window (enough p.0 p.1))
+
+  module _ (g : input_reading.F-Fn.Ghosts F) (κs : Lfts 3) (i : MutBor Input) where
+    -- what has not been taken left out of a program's input: a window with fewer octets
+    input_read_lost : (r : Window) → count_of r < length (seen_in i.now.space.now i.now.window)
+        → RuledOutWith (λ s. s.0.now.window) (input_read.Post F laws g a b c d κs) (i, (says, tt)) tt r
+    input_read_lost r fewer s e p = lost p.2 (rw e fewer)
+
+    -- a program's space that has another length
+    input_read_length : (left : List ℕ) → (length left ≡ length i.now.space.now → ⊥)
+        → RuledOutWith (λ s. s.0.now.space.now) (input_read.Post F laws g a b c d κs) (i, (says, tt)) tt left
+    input_read_length left other s e p = other (ap length (sym e) ∙ p.2.same_length)
+
+-- what a program reads, seen and taken
+module _ (κs : Lfts 2) where
+  -- a program's whole space, where there is more in it than the window
+  input_seen_whole : (i : Bor Input) (y : Place) → let w = i.now.window in count_of w < length i.now.space.now
+      → RuledOut (input_seen.Post κs) (i, tt) (lent y i.now.space.now)
+  input_seen_whole i y more s p = omega (arith, ap length p, length-take (count_of i.now.window) (drop i.now.window.from i.now.space.now))
+
+  -- nothing of what a program has read, where there is something
+  input_seen_none : (i : Bor Input) (y : Place) → 0 < length (seen_in i.now.space.now i.now.window) → RuledOut (input_seen.Post κs) (i, tt) (lent y [])
+  input_seen_none i y some s p = omega (arith, ap length p)
+
+  module _ (i : MutBor Input) (many : ℕ) where
+    -- nothing taken of a program's input where octets are asked for and there
+    input_take_none : 0 < many → 0 < count_of i.now.window → RuledOutWith (λ s. s.0.now.window) (input_take.Post κs) (i, (many, tt)) tt i.now.window
+    input_take_none some there s e p = omega (arith, ap (λ (r : Window). r.from) (sym e ∙ p.0))
+
+    -- an octet of a program's space changed as octets are taken
+    input_take_changed : (left : List ℕ) → (left ≡ i.now.space.now → ⊥) → RuledOutWith (λ s. s.0.now.space.now) (input_take.Post κs) (i, (many, tt)) tt left
+    input_take_changed left other s e p = other (sym e ∙ p.1)
 
 -- what waits, written
 module _ (κs : Lfts 1) (output : Stdout) (x : Place) (block : List ℕ) (texts : Texts) (going : Bool) where
@@ -143,3 +210,32 @@ module _ (κs : Lfts 2) (output : Stdout) (x y : Place) (a b c : ℕ) (going : B
       (c ∷ b ∷ [])
   unfolding fits_at over
   tell_last_over n s e p = n (cc p.left_so)
+
+-- what a program writes
+module _ (κs : Lfts 2) (o : MutBor Output) where
+  -- a program's text still waiting
+  output_out_waiting : (count : ℕ) → 0 < count → RuledOutWith (λ s. s.0.now.texts.count) (output_out.Post κs) (o, tt) tt count
+  output_out_waiting count some s e p = omega (arith, e, p.0.none_waits)
+
+  -- an octet of a program's block changed as it is written
+  output_out_changed : (left : List ℕ) → (left ≡ o.now.block.now → ⊥) → RuledOutWith (λ s. s.0.now.block.now) (output_out.Post κs) (o, tt) tt left
+  output_out_changed left other s e p = other (sym e ∙ p.1)
+
+  -- a program's output that has stopped going on
+  output_out_resumed : o.now.texts.going ≡ false → RuledOutWith (λ s. s.0.now.texts.going) (output_out.Post κs) (o, tt) tt true
+  output_out_resumed stopped s e p = true≢false (sym e ∙ p.0.stays_stopped stopped)
+
+module _ (κs : Lfts 3) (o : MutBor Output) (y : Place) (text : List ℕ) where
+  -- a program's text that fits, dropped
+  output_tell_dropped : fits_at o.now.block.now o.now.texts.count text ≡ true → 0 < length text
+      → RuledOutWith (λ s. s.0.now.texts) (output_tell.Post κs) (o, (lent y text, (true, tt))) tt o.now.texts
+  output_tell_dropped fits some s e p = omega (arith, ap (λ (t : Texts). t.count) (sym e ∙ (p.goes_on refl).count_behind fits))
+
+  -- another block than that in which a program's text stands
+  output_tell_other : (more : Bool) (left : List ℕ) → (left ≡ added_to o.now.block.now o.now.texts.count text → ⊥)
+      → RuledOutWith (λ s. s.0.now.block.now) (output_tell.Post κs) (o, (lent y text, (more, tt))) tt left
+  output_tell_other more left other s e p = other (sym e ∙ p.left_so)
+
+  -- more to go out behind a program's last text
+  output_tell_on : RuledOutWith (λ s. s.0.now.texts.going) (output_tell.Post κs) (o, (lent y text, (false, tt))) tt true
+  output_tell_on s e p = true≢false (sym e ∙ ap (λ (t : Texts). t.going) (p.ends refl))

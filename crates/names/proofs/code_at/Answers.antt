@@ -1,7 +1,7 @@
 -- `names::code_at` answers the code of the entry at a place.
 -- By the entry's first two octets. Assumes nothing.
 use mathlib.Core.Path.{sym}
-use Rattle.names.proofs.Entries.{code_of_law}
+use Rattle.names.proofs.Standing.{code_of_law}
 use Rattle.names.proofs.code_at.Goals as goal
 
 pub returns : goal.returns

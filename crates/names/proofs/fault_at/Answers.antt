@@ -6,7 +6,7 @@ use mathlib.Core.Path.{sym, ◌∙◌}
 use native.Mathlib.Omega.{arith}
 use borrow.Author.Tests.{lt-ltb, le-ltb, eq-eqb, ne_eqb}
 use Rattle.octets.proofs.Choice.{told}
-use Rattle.names.proofs.Entries.{fault_cut, fault_fits}
+use Rattle.names.proofs.Standing.{fault_cut, fault_fits}
 use Rattle.names.proofs.fault_at.Goals as goal
 use Rattle.names.proofs.fault_at.Goals.{then-many-eq0-via-then-many-eq0, then-many-eq0-via-else-many-eq0+then-many-gt-LONGEST}
 

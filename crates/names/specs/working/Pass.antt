@@ -1,12 +1,16 @@
 -- The one pass over a book as it is worked out: it checks the entries and keeps where the code's name lies. That this is the check of `Book` and the place
 -- of `LookUp` is proved. Assumes nothing.
-use Rattle.std.specs.Prelude.{ℕ, List, take, drop, Option, Result, Ok, Err}
+use Rattle.std.specs.Prelude.{ℕ, ◌+◌, List, [], ◌∷◌, take, drop, Option, Some, None, Result, Ok, Err}
 use Rattle.std.specs.Option.{option_or}
+use Rattle.octets.specs.Choice.{when◌then◌else◌}
 use Rattle.names.specs.declared.Code.{Code}
+use Rattle.names.specs.declared.Fault.{Fault}
 use Rattle.names.specs.declared.BookFault.{BookFault}
 use Rattle.names.specs.declared.Place.{Place}
-use Rattle.names.specs.Book.{size_of, entries, Checked, first_fault, checked}
-use Rattle.names.specs.LookUp.{find_in, find}
+use Rattle.names.specs.declared.Entry.{Entry}
+use Rattle.names.specs.Codes.{same_code}
+use Rattle.names.specs.Book.{code_of, length_of, size_of, entries, fault_of, Checked, checked}
+use Rattle.names.specs.LookUp.{place, find}
 
 -- the entry at a place, and the entries from there on
 unfoldable pub entry_at : List ℕ → ℕ → List ℕ
@@ -26,10 +30,26 @@ unfoldable pub read : Checked → Option Place → Passed
 read (Ok sound) found = Ok found
 read (Err why) found = Err why
 
--- the pass from a place on, and over a book
-unfoldable pub pass_from : Code → List ℕ → ℕ → ℕ → Code → Option Place → Passed
-pass_from wanted s at number before found =
-    read (first_fault number before (entries_from s at)) (kept found (find_in wanted number at (entries_from s at)))
+-- the entries as they are checked one behind the other, each by its number, its place and the code before it: one at fault is the last
+abbrev pub Judged : Type 0
+Judged = Result Entry BookFault
 
+abbrev pub judged_as : Option Fault → ℕ → ℕ → List ℕ → List Judged → List Judged
+judged_as (Some fault) number at e later = Err (record { fault = fault; entry = number }) ∷ []
+judged_as None number at e later = Ok (record { code = code_of e; place = place number (at + 3) (length_of e) }) ∷ later
+
+unfoldable pub judged : ℕ → ℕ → Code → List (List ℕ) → List Judged
+judged number at before [] = []
+judged number at before (e ∷ es) =
+    judged_as (fault_of number before e) number at e (judged (number + 1) (at + size_of e) (code_of e) es)
+
+-- the pass over entries that are checked, with what was found before them
+unfoldable pub pass_on : Code → Option Place → List Judged → Passed
+pass_on wanted found [] = Ok found
+pass_on wanted found (Err why ∷ es) = Err why
+pass_on wanted found (Ok e ∷ es) =
+    pass_on wanted (kept found (when same_code e.code wanted then Some e.place else None)) es
+
+-- the pass over a book
 unfoldable pub passed : Code → List ℕ → Passed
 passed wanted book = read (checked book) (find wanted book)
