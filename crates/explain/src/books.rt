@@ -43,13 +43,14 @@ impl Books {
     pub(crate) fn name(&self, voice: Voice, code: Code) {
         let chosen = self.chosen.octets();
         let italian = self.italian.octets();
-        match names::look_up(chosen, italian, code) {
+        let looked_up = names::look_up(chosen, italian, code);
+        match looked_up {
             Err(refusal) => {
                 words::unreadable(voice, refusal.book);
                 words::refused(voice, refusal.why);
             }
             Ok(Some(found)) => {
-                let name = names::name_at(chosen, italian, found);
+                let name = names::name_at(chosen, italian, looked_up);
                 words::named(voice, found.book, found.entry, name);
             }
             Ok(None) => words::unnamed(voice),

@@ -156,8 +156,9 @@ fn refusal_line(refusal: Refusal) -> Line {
 }
 
 fn name_line(chosen: &[u8], italian: &[u8], code: Code) -> Line {
-    match names::look_up(chosen, italian, code) {
-        Ok(Some(found)) => found_line(found, names::name_at(chosen, italian, found)),
+    let looked_up = names::look_up(chosen, italian, code);
+    match looked_up {
+        Ok(Some(found)) => found_line(found, names::name_at(chosen, italian, looked_up)),
         Ok(None) => Line::of("0 0 0 -\n"),
         Err(refusal) => refusal_line(refusal),
     }

@@ -176,15 +176,21 @@ one_name wanted a b c d = ap (λ (l : LookedUp). name_of_shown (shown_of l) (one
 
 module _ (κs : Lfts 1) (x y z : Place) where
   -- octets of the other book, whenever the two that lie there differ
-  name_at_other : (a b k : ℕ) → (a ≡ b → ⊥) → RuledOut (name_at.Post κs) (lent x (a ∷ []), (lent y (b ∷ []), (found which.Chosen k 0 1, tt))) (lent z (b ∷ []))
-  unfolding cut_from
+  name_at_other : (a b k : ℕ) → (a ≡ b → ⊥) → RuledOut (name_at.Post κs) (lent x (a ∷ []), (lent y (b ∷ []), (Ok (Some (found which.Chosen k 0 1)), tt))) (lent z (b ∷ []))
+  unfolding cut_out cut_from
   name_at_other a b k n s p = n cc
 
   -- all octets to the end of the book, where one is told
   name_at_end : (a b k : ℕ) (chosen : List ℕ)
-      → RuledOut (name_at.Post κs) (lent x chosen, (lent y (a ∷ b ∷ []), (found which.Italian k 0 1, tt))) (lent z (a ∷ b ∷ []))
-  unfolding cut_from
+      → RuledOut (name_at.Post κs) (lent x chosen, (lent y (a ∷ b ∷ []), (Ok (Some (found which.Italian k 0 1)), tt))) (lent z (a ∷ b ∷ []))
+  unfolding cut_out cut_from
   name_at_end a b k chosen s p = never (omega (arith, ap length p))
+
+  -- anything where there is no name, whatever the books
+  name_at_some : (chosen italian : List ℕ) (octet : ℕ) (others : List ℕ)
+      → RuledOut (name_at.Post κs) (lent x chosen, (lent y italian, (Ok None, tt))) (lent z (octet ∷ others))
+  unfolding cut_out
+  name_at_some chosen italian octet others s p = never (omega (arith, ap length p))
 
   module _ (wanted : Code) (a b c d : ℕ) where
     -- the Italian name where the chosen book has one, whenever the two differ

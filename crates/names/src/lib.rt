@@ -4,7 +4,7 @@ ghost use Rattle.std.specs.Prelude.{◌≡◌, ◌+◌, ◌≤◌, length};
 ghost use Rattle.std.specs.Iterator.{YieldsFirst, item_count};
 ghost use Rattle.names.specs.Codes.{code, code_of_event};
 ghost use Rattle.names.specs.Book.{number_of, code_of, in_order, fault_of, checked};
-ghost use Rattle.names.specs.LookUp.{found_in, looked_up, name_shown, cut_from};
+ghost use Rattle.names.specs.LookUp.{found_in, looked_up, name_shown, cut_from, cut_out};
 ghost use Rattle.names.specs.working.Pass.{entry_at, entries_from, judged, passed};
 
 // The code of an event: SPA and SPQ, the qualifier of seven bits. Codes are ordered by SPA, and with the same SPA by SPQ.
@@ -248,8 +248,7 @@ pub fn look_up(chosen: &[u8], italian: &[u8], code: Code) -> Result<Option<Found
     Ok(first.or(second))
 }
 
-// The name that a look-up in these two books has found, cut out of its book without another pass.
-pub fn name_at<'a>(chosen: &'a [u8], italian: &'a [u8], found: Found) -> &'a [u8]
+fn cut_from<'a>(chosen: &'a [u8], italian: &'a [u8], found: Found) -> &'a [u8]
     ensures { result.now ≡ cut_from found chosen.now italian.now }
 {
     match found.book {
@@ -258,13 +257,25 @@ pub fn name_at<'a>(chosen: &'a [u8], italian: &'a [u8], found: Found) -> &'a [u8
     }
 }
 
+// The name that a look-up in these two books has found, cut out of its book without another pass; empty where there is none.
+#[tactic(auto, unfolding(crate::specs::LookUp::cut_out))]
+pub fn name_at<'a>(
+    chosen: &'a [u8],
+    italian: &'a [u8],
+    looked_up: Result<Option<Found>, Refusal>,
+) -> &'a [u8]
+    ensures { result.now ≡ cut_out looked_up chosen.now italian.now }
+{
+    match looked_up {
+        Ok(Some(found)) => cut_from(chosen, italian, found),
+        Ok(None) => b"",
+        Err(_) => b"",
+    }
+}
+
 // The name of a code, a part of one of the two books; empty where a book is refused and where neither has one.
 pub fn name<'a>(chosen: &'a [u8], italian: &'a [u8], code: Code) -> &'a [u8]
     ensures { result.now ≡ name_shown code chosen.now italian.now }
 {
-    match look_up(chosen, italian, code) {
-        Ok(Some(found)) => name_at(chosen, italian, found),
-        Ok(None) => b"",
-        Err(_) => b"",
-    }
+    name_at(chosen, italian, look_up(chosen, italian, code))
 }

@@ -1,8 +1,8 @@
--- `names::name_at` hands back a part of one of the two books.
+-- `names::cut_from` hands back a part of one of the two books.
 -- By which of them has the name. Assumes nothing.
 use mathlib.Core.Path.{◌∙◌}
 use Rattle.names.specs.LookUp.{cut_from}
-use Rattle.names.proofs.name_at.Goals as goal
+use Rattle.names.proofs.cut_from.Goals as goal
 
 pub returns-in-Chosen : goal.returns-in-Chosen
 unfolding cut_from
