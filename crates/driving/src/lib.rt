@@ -24,7 +24,8 @@ pub struct Held {
     pub room: u16,
 }
 
-// What a call leaves: how many octets its text has, what is held, whether another may follow.
+// What a call leaves: how many octets its text has, what is held, whether another may follow. What is held is no Option by that: `last_step` of specs/
+// tells of it also where no call follows.
 #[derive(Clone, Copy)]
 pub struct Left {
     pub count: usize,

@@ -5,14 +5,12 @@ use mathlib.Core.Bool.{Bool, true, false}
 use mathlib.Core.List.{List, [], ◌∷◌, ◌++◌, append-nil, append_assoc}
 use mathlib.Core.Path.{◌≡◌, refl, ap, ◌∙◌}
 use native.Mathlib.Omega.{arith}
-use borrow.Author.Tests.{le-leb, lt-leb, ltb-true, ltb-false}
+use borrow.Author.Tests.{le-leb, lt-leb, leb-true, leb-false, ltb-true, ltb-false}
 use lib.Dec.{ltb}
 use lib.ListN.{length, take, drop, get_or, length-append, length-take}
-use Rattle.std.specs.List.{fold}
+use lib.Seq.{take_at}
 use Rattle.octets.specs.Over.{over}
-use Rattle.octets.specs.Calls.{fits_at, added}
-use Rattle.octets.specs.Keeping.{octets_of, kept_of}
-use Rattle.octets.proofs.Keeping.{added_more, octets_back}
+use Rattle.octets.specs.Calls.{fits_at}
 use Rattle.octets.proofs.Choice.{told}
 use Rattle.octets.proofs.Over.{Put, over_first, over_after, over_length, put_fits}
 use Rattle.deeds.specs.declared.Order.{Order}
@@ -25,6 +23,23 @@ use Rattle.printing.proofs.Text.{decimal_length, pairs_length, pairs_more}
 pub put_at : (under : List ℕ) (at : ℕ) (part : List ℕ) {done : Bool} {left : List ℕ} → at + length part ≤ length under → Put under at part done left
     → PutAt under at part (at + length part) left
 put_at under at part room p = record { ends = refl; fits = room; stands = put_fits under at part p room }
+
+-- a part behind the first octets of an array, and one for which there is no room
+module _ (octets part : List ℕ) (n : ℕ) {left : List ℕ} {done : Bool} (size : length octets ≡ 96) (few : n ≤ 96) (p : Put octets n part done left) where
+  pub part_fits : done ≡ true → n + length part ≤ 96
+  unfolding fits_at
+  part_fits e = omega (arith, size, leb-true (n + length part) (length octets) (told p.answers e))
+
+  pub part_behind : done ≡ true → take (n + length part) left ≡ take n octets ++ part
+  unfolding over
+  part_behind e =
+      let room : n + length part ≤ length octets = omega (arith, size, part_fits e) in
+      let front : length (take n octets ++ part) ≡ n + length part = simp (length-append, length-take) (omega arith) in
+      rw (put_fits octets n part p room) (take_at (take n octets ++ part) (drop (n + length part) octets) (n + length part) front)
+
+  pub part_long : done ≡ false → length (take n octets) + length part ≤ 96 → ⊥
+  unfolding fits_at
+  part_long e room = omega (arith, size, few, room, length-take n octets, leb-false (n + length part) (length octets) (told p.answers e))
 
 -- a part behind another
 pub behind : {under mid left xs ys : List ℕ} {at to end : ℕ} → PutAt under at xs to mid → PutAt mid to ys end left → PutAt under at (xs ++ ys) end left
@@ -147,64 +162,68 @@ unfolding dash_for
 dash_length [] = omega arith
 dash_length (octet ∷ reply) = omega arith
 
--- heads that are kept, part behind part
-pub beginning_kept : (first second : ℕ) (order : Order)
-    → added (added (added (added (added (kept_of []) (decimal first)) space) (decimal second)) space) (word order) ≡ kept_of (beginning first second order)
-unfolding beginning
-beginning_kept first second order =
-    let one = decimal_length first in
-    let two = decimal_length second in
-    let last = word_length order in
-    rw (
-      added_more [] (decimal first) (omega arith),
-      added_more (decimal first) space (omega arith),
-      added_more (decimal first ++ space) (decimal second) (simp length-append (omega arith)),
-      added_more ((decimal first ++ space) ++ decimal second) space (simp length-append (omega arith)),
-      added_more (((decimal first ++ space) ++ decimal second) ++ space) (word order) (simp length-append (omega arith)),
-    )
+-- one part more of a head, for which there is room
+abbrev Puts : List ℕ → List ℕ → ℕ → List ℕ → Type 0
+Puts old part most new = length old + most ≤ 96 → new ≡ old ++ part
 
-pub gap_kept : (number count : ℕ) (order : Order) (time : List ℕ) (damaged : ℕ)
-    → added (added (added (added (added (kept_of (beginning number count order)) space) (time_text order time)) space) (decimal damaged)) space
-    ≡ kept_of (beginning number count order ++ space ++ time_text order time ++ space ++ decimal damaged ++ space)
-gap_kept number count order time damaged =
-    let front = beginning number count order in
-    let middle = time_text order time in
-    let one = beginning_length number count order in
-    let two = time_length order time in
-    let last = decimal_length damaged in
-    rw (
-      added_more front space (omega arith),
-      added_more (front ++ space) middle (simp length-append (omega arith)),
-      added_more ((front ++ space) ++ middle) space (simp length-append (omega arith)),
-      added_more (((front ++ space) ++ middle) ++ space) (decimal damaged) (simp length-append (omega arith)),
-      added_more ((((front ++ space) ++ middle) ++ space) ++ decimal damaged) space (simp length-append (omega arith)),
-    )
+put_next : {old new : List ℕ} (text part : List ℕ) (most : ℕ) → old ≡ text → Puts old part most new → length text + most ≤ 96 → new ≡ text ++ part
+put_next text part most e f room = f (rw e room) ∙ ap (λ (l : List ℕ). l ++ part) e
 
--- pair after pair of the octets of an order
-pairs_behind : (front octets : List ℕ) → length front + 2 * length octets ≤ 252
-    → fold (λ text octet. added text (pair_of octet)) (kept_of front) octets ≡ kept_of (front ++ pairs [] octets)
-unfolding pairs pair_of
-pairs_behind front [] room = rw append-nil
-pairs_behind front (octet ∷ rest) room =
-    rw (added_more front (pair_of octet) (omega arith))
-    (pairs_behind (front ++ pair_of octet) rest (simp length-append (omega arith)) ∙ ap kept_of (append_assoc front (pair_of octet) (pairs [] rest)))
+-- what both lines begin with, and the head of a gap's line
+module _ {a b c d e : List ℕ} where
+  pub begun : {none last : List ℕ} (first second : ℕ) (order : Order) → none ≡ [] → Puts none (decimal first) 20 a → Puts a space 1 b → Puts b (decimal second) 20 c
+      → Puts c space 1 d → last ≡ word order → Puts d last (length last) e → e ≡ beginning first second order
+  unfolding beginning
+  begun first second order start f g h i w j =
+      let one = decimal_length first in
+      let two = decimal_length second in
+      let three = word_length order in
+      let columns : c ≡ decimal first ++ space ++ decimal second =
+      put_next (decimal first ++ space) (decimal second) 20 (put_next (decimal first) space 1 (put_next [] (decimal first) 20 start f (omega arith)) g (omega arith)) h
+      (simp length-append (omega arith)) in
+      let spaced : d ≡ decimal first ++ space ++ decimal second ++ space = put_next (decimal first ++ space ++ decimal second) space 1 columns i (simp length-append (omega arith)) in
+      put_next (decimal first ++ space ++ decimal second ++ space) (word order) (length (word order)) spaced (rw w at j) (simp length-append (omega arith))
 
-pub pairs_kept : (octets : List ℕ) → length octets ≤ 10 → fold (λ text octet. added text (pair_of octet)) (kept_of []) octets ≡ kept_of (pairs [] octets)
-pairs_kept octets few = pairs_behind [] octets (omega arith)
+  pub headed : {front : List ℕ} (number count : ℕ) (order : Order) (time : List ℕ) (damaged : ℕ) → front ≡ beginning number count order → Puts front space 1 a
+      → Puts a (time_text order time) 20 b → Puts b space 1 c → Puts c (decimal damaged) 20 d → Puts d space 1 e
+      → e ≡ beginning number count order ++ space ++ time_text order time ++ space ++ decimal damaged ++ space
+  headed number count order time damaged start f g h i j =
+      let front = beginning number count order in
+      let middle = time_text order time in
+      let one = beginning_length number count order in
+      let two = time_length order time in
+      let three = decimal_length damaged in
+      let timed : b ≡ front ++ space ++ middle =
+      put_next (front ++ space) middle 20 (put_next front space 1 start f (omega arith)) g (simp length-append (omega arith)) in
+      let spaced : c ≡ front ++ space ++ middle ++ space = put_next (front ++ space ++ middle) space 1 timed h (simp length-append (omega arith)) in
+      let counted : d ≡ front ++ space ++ middle ++ space ++ decimal damaged =
+      put_next (front ++ space ++ middle ++ space) (decimal damaged) 20 spaced i (simp length-append (omega arith)) in
+      put_next (front ++ space ++ middle ++ space ++ decimal damaged) space 1 counted j (simp length-append (omega arith))
+
+-- one pair more
+pub pair_put : (start octets : List ℕ) (i : ℕ) → i < length octets → length start + 2 * length octets ≤ 96 → {text new pair : List ℕ}
+    → text ≡ start ++ pairs [] (take i octets) → pair ≡ pair_of (get_or octets i 0) → Puts text pair (length pair) new → new ≡ start ++ pairs [] (take (i + 1) octets)
+unfolding pair_of
+pair_put start octets i h room {text} {new} e p f =
+    let most : length (pairs [] (take i octets)) + 2 ≤ 2 * length octets = omega (arith, pairs_length [] (take i octets), length-take i octets) in
+    let front : List ℕ = start ++ pairs [] (take i octets) in
+    put_next front (pair_of (get_or octets i 0)) 2 e (rw p at f) (simp length-append (omega arith))
+    ∙ append_assoc start (pairs [] (take i octets)) (pair_of (get_or octets i 0))
+    ∙ ap (λ (l : List ℕ). start ++ l) (pairs_more [] octets i h)
 
 -- a line from its head on
-pub run_line : (number result : ℕ) (order : Order) (reply head : List ℕ) → head ≡ octets_of (added (kept_of (beginning number result order)) (dash_for reply))
-    → head ++ pairs space reply ++ newline ≡ line_of number result order reply
+pub run_line : (number result : ℕ) (order : Order) (reply : List ℕ) {front none head : List ℕ} → front ≡ beginning number result order → none ≡ dash_for reply
+    → Puts front none (length none) head → head ++ pairs space reply ++ newline ≡ line_of number result order reply
 unfolding line_of
-run_line number result order reply head e =
+run_line number result order reply start e f =
     let front = beginning number result order in
-    let room : length front + length (dash_for reply) ≤ 252 = omega (arith, beginning_length number result order, dash_length reply) in
-    let is : head ≡ front ++ dash_for reply = e ∙ rw (added_more front (dash_for reply) room) (octets_back (front ++ dash_for reply)) in
+    let few = beginning_length number result order in
+    let short = dash_length reply in
+    let is = put_next front (dash_for reply) (length (dash_for reply)) start (rw e at f) (omega arith) in
     ap (λ (l : List ℕ). l ++ pairs space reply ++ newline) is ∙ ap (λ (l : List ℕ). l ++ newline) (dash_or_pairs front reply)
 
-pub gap_text : (number count : ℕ) (order : Order) (time : List ℕ) (damaged : ℕ) (buffer head : List ℕ)
-    → head ≡ octets_of (kept_of (beginning number count order ++ space ++ time_text order time ++ space ++ decimal damaged ++ space))
+pub gap_text : (number count : ℕ) (order : Order) (time : List ℕ) (damaged : ℕ) (buffer : List ℕ) {head : List ℕ}
+    → head ≡ beginning number count order ++ space ++ time_text order time ++ space ++ decimal damaged ++ space
     → head ++ pairs [] buffer ++ newline ≡ gap_line number count order time damaged buffer
 unfolding gap_line
-gap_text number count order time damaged buffer head e =
-    rw (e ∙ octets_back (beginning number count order ++ space ++ time_text order time ++ space ++ decimal damaged ++ space))
+gap_text number count order time damaged buffer e = rw e

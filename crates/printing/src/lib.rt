@@ -1,6 +1,6 @@
 #![tactic(auto)]
 // The lines that the programs print: functions that write into a lent buffer, so that a program only reads, calls and writes.
-ghost use Rattle.std.specs.Prelude.{◌+◌, ◌*◌, ◌≤◌, ◌<◌, [], ◌++◌, ◌≡◌, ltb, length};
+ghost use Rattle.std.specs.Prelude.{◌+◌, ◌*◌, ◌≤◌, ◌<◌, ℕ, List, [], ◌++◌, ◌≡◌, ltb, length, take};
 ghost use Rattle.octets.specs.Calls.{added};
 ghost use Rattle.octets.specs.Keeping.{kept_of};
 ghost use Rattle.printing.specs.Text.{decimal, pair_of, pairs};
@@ -8,6 +8,7 @@ ghost use Rattle.printing.specs.Line.{space, newline, word, beginning, dash_for,
 
 use deeds::Order;
 use octets::Kept;
+use std::marker::Model;
 
 const HEX_FIGURES: [u8; 16] = *b"0123456789ABCDEF";
 
@@ -21,8 +22,7 @@ fn pair(octet: u8) -> [u8; 2]
     ]
 }
 
-// The head of a line is all of it but the last octets in hex. It is short, and is kept apart, because only its length tells whether the line fits.
-// Its columns stand a space apart. An order's is its word.
+// An order as a word.
 fn word(order: Order) -> &'static [u8]
     ensures { result.now ≡ word order }
 {
@@ -33,45 +33,96 @@ fn word(order: Order) -> &'static [u8]
     }
 }
 
-// What both lines begin with.
-fn begin(first: u64, second: u64, order: Order) -> Kept
-    ensures { result ≡ kept_of (beginning first second order) }
-{
-    let first = with_decimal(Kept::new(), first).with(b" ");
-    with_decimal(first, second).with(b" ").with(word(order))
+// The head of a line is all of it but the last octets in hex. It is short, and is put together apart, because only its length tells whether the line
+// fits. Its columns stand a space apart.
+#[derive(Drop)]
+struct Head {
+    octets: [u8; 96],
+    length: usize,
 }
 
-// Some octets of an order in hex.
-fn time_pairs(octets: &[u8]) -> Kept
-    requires { length octets.now ≤ 10 }
-    ensures { result ≡ kept_of (pairs [] octets.now) }
-{
-    octets
-        .iter()
-        .fold(Kept::new(), |text, octet| text.with(&pair(*octet)))
+impl Model for Head {
+    ghost Value = { List ℕ };
+
+    ghost view = { λ head. take head.length head.octets };
+
+    ghost invariant = { λ head. head.length ≤ 96 };
 }
 
-// What stands for the octets of an order.
-fn time_column(order: Order, time: &[u8]) -> Kept
-    ensures { result ≡ kept_of (time_text order time.now) }
-{
-    match order {
-        Order::NoOrder => Kept::new().with(b"-"),
-        Order::SetClock => time_pairs(octets::part(time, 0, 7)),
-        Order::SetDates => time_pairs(octets::part(time, 0, 10)),
+impl Head {
+    fn new() -> Head
+        ensures { result ≡ [] }
+    {
+        Head {
+            octets: [0; 96],
+            length: 0,
+        }
+    }
+
+    fn as_slice(&self) -> &[u8]
+        ensures { result.now ≡ self.now }
+    {
+        octets::part(&self.octets, 0, self.length)
+    }
+
+    fn put(&mut self, part: &[u8])
+        ensures { length self.old + length part.now ≤ 96 → self.new ≡ self.old ++ part.now }
+    {
+        if octets::put(&mut self.octets, self.length, part) {
+            self.length += part.len();
+        }
+    }
+
+    fn put_decimal(&mut self, n: u64)
+        ensures { length self.old + 20 ≤ 96 → self.new ≡ self.old ++ decimal n }
+    {
+        self.put(itoa::Buffer::new().format(n).as_bytes());
+    }
+
+    fn put_pairs(&mut self, octets: &[u8])
+        ensures { length self.old + 2 * length octets.now ≤ 96 → self.new ≡ self.old ++ pairs [] octets.now }
+    {
+        for octet in octets {
+            self.put(&pair(*octet));
+        }
+    }
+
+    // The octets of an order.
+    fn put_time(&mut self, order: Order, time: &[u8])
+        ensures { length self.old + 20 ≤ 96 → self.new ≡ self.old ++ time_text order time.now }
+    {
+        match order {
+            Order::NoOrder => self.put(b"-"),
+            Order::SetClock => self.put_pairs(octets::part(time, 0, 7)),
+            Order::SetDates => self.put_pairs(octets::part(time, 0, 10)),
+        }
     }
 }
 
-// The head of a gap's line.
-fn gap_head(number: u64, count: u64, order: Order, time: &[u8], damaged: u64) -> Kept
-    ensures { result ≡ kept_of (beginning number count order ++ space ++ time_text order time.now ++ space ++ decimal damaged ++ space) }
+// What both lines begin with.
+fn begin(first: u64, second: u64, order: Order) -> Head
+    ensures { result ≡ beginning first second order }
 {
-    let time = time_column(order, time);
-    let front = begin(number, count, order)
-        .with(b" ")
-        .with(time.as_slice())
-        .with(b" ");
-    with_decimal(front, damaged).with(b" ")
+    let mut head = Head::new();
+    head.put_decimal(first);
+    head.put(b" ");
+    head.put_decimal(second);
+    head.put(b" ");
+    head.put(word(order));
+    head
+}
+
+// The head of a gap's line.
+fn gap_head(number: u64, count: u64, order: Order, time: &[u8], damaged: u64) -> Head
+    ensures { result ≡ beginning number count order ++ space ++ time_text order time.now ++ space ++ decimal damaged ++ space }
+{
+    let mut head = begin(number, count, order);
+    head.put(b" ");
+    head.put_time(order, time);
+    head.put(b" ");
+    head.put_decimal(damaged);
+    head.put(b" ");
+    head
 }
 
 // What stands for a reply that has no octets.
@@ -146,7 +197,8 @@ pub fn put_text(out: &mut [u8], text: &[u8]) -> usize
 pub fn line(out: &mut [u8], number: u64, res: u8, order: Order, reply: &[u8]) -> usize
     ensures { Lined out.old (line_of number res order reply.now) result out.new }
 {
-    let head = begin(number, u64::from(res), order).with(dash(reply));
+    let mut head = begin(number, u64::from(res), order);
+    head.put(dash(reply));
     lay(out, head.as_slice(), b" ", reply)
 }
 

@@ -1,7 +1,8 @@
 -- `begin` answers what both lines begin with.
--- Part behind part. Assumes nothing.
-use Rattle.printing.proofs.Lines.{beginning_kept}
+-- Column behind column. Assumes nothing.
+use Rattle.printing.proofs.Lines.{begun}
 use Rattle.printing.proofs.begin.Goals as goal
 
 pub returns : goal.returns
-returns c = cc (beginning_kept c.args.first c.args.second c.args.order)
+returns c =
+    begun c.args.first c.args.second c.args.order c.new-head.ensures c.put_decimal.ensures c.put.ensures c.put_decimal-2.ensures c.put-2.ensures c.word.ensures c.put-3.ensures

@@ -1,11 +1,9 @@
 -- `gap_head` answers the head of a gap's line.
--- Part behind part. Assumes nothing.
-use Rattle.octets.proofs.Keeping.{octets_back}
-use Rattle.printing.specs.Line.{time_text}
-use Rattle.printing.proofs.Lines.{gap_kept}
+-- Column behind column. Assumes nothing.
+use Rattle.printing.proofs.Lines.{headed}
 use Rattle.printing.proofs.gap_head.Goals as goal
 
 pub returns : goal.returns
 returns c =
     let a = c.args in
-    cc (gap_kept a.number a.count a.order a.time.now a.damaged, octets_back (time_text a.order a.time.now))
+    headed a.number a.count a.order a.time.now a.damaged c.begin-head.ensures c.put.ensures c.put_time.ensures c.put-2.ensures c.put_decimal.ensures c.put-3.ensures
