@@ -48,6 +48,11 @@ use Rattle.card.proofs.Card.power_on.Reads as card_power_on
 use Rattle.card.proofs.Card.octet.Reads as card_octet
 use Rattle.card.proofs.Card.octets.Reads as card_octets
 use Rattle.card.proofs.Card.character.Reads as card_character
+use Rattle.card.proofs.NoAnswerFromFault.from.Reads as no_answer_from
+
+-- another reason than the fault of the run
+from_other : (κs : Lfts 0) (fault : Fault) (wrong : NoAnswer) → (wrong ≡ Faulty fault → ⊥) → RuledOut (no_answer_from.Post κs) (fault, tt) wrong
+from_other κs fault wrong other s p = other p
 
 module _ (κs : Lfts 0) (wrong : Card) where
   -- a count of damaged runs at power-on that is not 0

@@ -343,7 +343,6 @@ fn write_fixed(space: &mut [u8; Judged::LONGEST], control: u8, address: u16) -> 
     Judged::FIXED as u16
 }
 
-#[tactic(auto, using(crate::proofs::Writing::variable_stands))]
 fn write_variable(space: &mut [u8; Judged::LONGEST], control: u8, address: u16, user: &[u8]) -> u16
     requires { length user.now ≤ 252 }
     ensures { Does (length (written sapr (variable control address user.now))) (laid_in space.old (written sapr (variable control address user.now))) result space.new }
