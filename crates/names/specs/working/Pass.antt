@@ -39,7 +39,6 @@ unfoldable pub entry_checked : ℕ → ℕ → Code → List ℕ → Result Entr
 entry_checked number at before e =
     unless_at_fault (fault_of number before e) (record { code = code_of e; place = place number (at + 3) (length_of e) })
 
--- the entries as they are checked one behind the other, each by its number, its place and the code before it: one at fault is the last
 abbrev pub Judged : Type 0
 Judged = Result Entry BookFault
 
@@ -47,6 +46,7 @@ abbrev pub judged_as : Result Entry Fault → ℕ → List Judged → List Judge
 judged_as (Ok entry) number later = Ok entry ∷ later
 judged_as (Err fault) number later = Err (record { fault = fault; entry = number }) ∷ []
 
+-- the entries as they are checked one behind the other, each by its number, its place and the code before it: one at fault is the last
 unfoldable pub judged : ℕ → ℕ → Code → List (List ℕ) → List Judged
 judged number at before [] = []
 judged number at before (e ∷ es) =
