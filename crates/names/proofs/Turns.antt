@@ -14,12 +14,16 @@ use Rattle.names.specs.declared.Entry.{Entry}
 use Rattle.names.specs.declared.Place.{Place}
 use Rattle.names.specs.declared.Fault.{Fault}
 use Rattle.names.specs.declared.Fault.TheVariants.{Version}
-use Rattle.std.specs.Prelude.{Option, Some, None, Ok, Err}
+use Rattle.std.specs.Prelude.{Option, Some, None, Result, Ok, Err}
 use Rattle.names.specs.Codes.{code, same_code}
 use Rattle.names.specs.Book.{code_of, length_of, size_of, entries_of, fault_of, Checked, unless_faulty, first_fault, checked}
 use Rattle.names.specs.LookUp.{place, find_in, find}
-use Rattle.names.specs.working.Pass.{entry_at, entries_from, kept, Passed, read, Judged, judged_as, judged, pass_on, passed}
-use Rattle.names.proofs.Standing.{entries_end, entries_more, length_of_law}
+use Rattle.names.specs.working.Pass.{entry_at, entries_from, kept, Passed, read, Judged, unless_at_fault, entry_checked, judged_as, judged, pass_on, passed}
+use Rattle.names.proofs.Standing.{entries_end, entries_more, length_of_law, fault_none}
+
+-- what is there is no fault
+ok_err : {entry : Entry} {fault : Fault} → ◌≡◌ {A = Result Entry Fault} (Ok entry) (Err fault) → ⊥
+ok_err e = cc
 
 -- nothing comes later: what was found counts
 pub kept_nothing : (found : Option Place) → kept found None ≡ found
@@ -38,30 +42,54 @@ kept_on None new later false = refl
 abbrev refused : Fault → ℕ → Passed
 refused fault entry = Err (record { fault = fault; entry = entry })
 
+-- an entry that is checked: what it is, and that nothing is wrong with it
+record IsChecked (number at : ℕ) (before : Code) (e : List ℕ) (entry : Entry) : Type 0 where
+  is : entry ≡ record { code = code_of e; place = place number (at + 3) (length_of e) }
+  sound : fault_of number before e ≡ None
+
+is_checked : {number at : ℕ} {before : Code} {e : List ℕ} {entry : Entry} → Ok entry ≡ entry_checked number at before e → IsChecked number at before e entry
+unfolding entry_checked
+is_checked {number} {at} {before} {e} {entry} = by_fault (fault_of number before e) refl
+  where
+    by_fault : (f : Option Fault) → fault_of number before e ≡ f
+        → Ok entry ≡ unless_at_fault f (record { code = code_of e; place = place number (at + 3) (length_of e) }) → IsChecked number at before e entry
+    by_fault None s h = record { is = cc; sound = s }
+    by_fault (Some fault) s h = absurd (ok_err h)
+
 -- the entries from a place on: none at the end, a fault that is the last, or one and those behind it
 module _ (s : List ℕ) (at number : ℕ) (before : Code) where
   pub judged_end : length s ≤ at → judged number at before (entries_from s at) ≡ []
   unfolding judged
   judged_end h = rw (entries_end s at h)
 
-  pub judged_fault : {fault : Fault} → at < length s → Some fault ≡ fault_of number before (entry_at s at)
+  pub judged_fault : {fault : Fault} → at < length s → Err fault ≡ entry_checked number at before (entry_at s at)
       → judged number at before (entries_from s at) ≡ Err (record { fault = fault; entry = number }) ∷ []
   unfolding judged
   judged_fault h e = rw (entries_more s at h, ← e)
 
-  pub judged_more : {own : Code} → at < length s → None ≡ fault_of number before (entry_at s at) → own ≡ code_of (entry_at s at)
+  pub judged_more : {entry : Entry} → at < length s → Ok entry ≡ entry_checked number at before (entry_at s at)
       → judged number at before (entries_from s at)
-      ≡ Ok (record { code = own; place = place number (at + 3) (get_or s (at + 2) 0) })
-      ∷ judged (number + 1) (at + 3 + get_or s (at + 2) 0) own (entries_from s (at + 3 + get_or s (at + 2) 0))
+      ≡ Ok entry ∷ judged (number + 1) (entry.place.at + entry.place.many) entry.code (entries_from s (entry.place.at + entry.place.many))
   unfolding judged
-  judged_more h e c =
-      let next : at + 3 + get_or s (at + 2) 0 ≡ at + (3 + get_or s (at + 2) 0) = omega arith in
-      rw (entries_more s at h, ← e, length_of_law s at, c, next)
+  judged_more {entry} h e =
+      let own = (is_checked e).is in
+      let next : entry.place.at + entry.place.many ≡ at + size_of (entry_at s at) = rw own (omega arith) in
+      let code_so : entry.code ≡ code_of (entry_at s at) = ap (λ (x : Entry). x.code) own in
+      rw (entries_more s at h, ← e, next, code_so)
+
+  -- an entry that is checked has its room
+  pub entry_room : {entry : Entry} → at < length s → Ok entry ≡ entry_checked number at before (entry_at s at)
+      → (entry.place.at ≡ at + 3) × (entry.place.at + entry.place.many ≤ length s)
+  entry_room {entry} h e =
+      let w = is_checked e in
+      let own = w.is in
+      let room = fault_none s at number before (omega arith) w.sound in
+      rw own (refl, omega (arith, room, length_of_law s at))
 
 module _ (wanted : Code) where
   pub pass_judged : (number at : ℕ) (before : Code) (found : Option Place) (es : List (List ℕ))
       → pass_on wanted found (judged number at before es) ≡ read (first_fault number before es) (kept found (find_in wanted number at es))
-  unfolding judged pass_on first_fault find_in read
+  unfolding entry_checked judged pass_on first_fault find_in read
   pass_judged number at before found [] = ap Ok (sym (kept_nothing found))
   pass_judged number at before found (e ∷ es) =
       by_fault (fault_of number before e) (λ more. pass_judged (number + 1) (at + size_of e) (code_of e) more es)
@@ -79,7 +107,7 @@ module _ (wanted : Code) where
       rest = first_fault (number + 1) (code_of e) es
 
       by_fault : (f : Option Fault) → ((more : Option Place) → pass_on wanted more others ≡ read rest (kept more later))
-          → pass_on wanted found (judged_as f number at e others)
+          → pass_on wanted found (judged_as (unless_at_fault f (record { code = code_of e; place = own })) number others)
           ≡ read (unless_faulty f number rest) (kept found (when same_code (code_of e) wanted then Some own else later))
       by_fault (Some fault) over_rest = refl
       by_fault None over_rest = over_rest _ ∙ ap (read rest) (kept_on found own later (same_code (code_of e) wanted))

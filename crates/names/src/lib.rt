@@ -3,9 +3,9 @@
 ghost use Rattle.std.specs.Prelude.{◌≡◌, ◌+◌, ◌≤◌, length};
 ghost use Rattle.std.specs.Iterator.{YieldsFirst, item_count};
 ghost use Rattle.names.specs.Codes.{code, code_of_event};
-ghost use Rattle.names.specs.Book.{number_of, code_of, in_order, fault_of, checked};
+ghost use Rattle.names.specs.Book.{number_of, in_order, checked};
 ghost use Rattle.names.specs.LookUp.{found_in, looked_up, name_shown, cut_from, cut_out};
-ghost use Rattle.names.specs.working.Pass.{entry_at, entries_from, judged, passed};
+ghost use Rattle.names.specs.working.Pass.{entry_at, entry_checked, entries_from, judged, passed};
 
 // The code of an event: SPA and SPQ, the qualifier of seven bits. Codes are ordered by SPA, and with the same SPA by SPQ.
 #[derive(Clone, Copy, PartialEq, Eq, PartialOrd, Ord)]
@@ -101,35 +101,32 @@ impl Code {
     }
 }
 
-fn code_at(book: &[u8], at: usize) -> Code
-    requires { at + 2 ≤ length book.now }
-    ensures { result ≡ code_of (entry_at book.now at) }
-{
-    Code {
-        spa: book[at],
-        spq: book[at + 1],
-    }
-}
-
-// What is wrong with the entry at a place, by its number and the code of the entry before.
-fn fault_at(book: &[u8], at: usize, number: usize, before: Code) -> Option<Fault>
+// The entry at a place, by its number and the code of the entry before; or what is wrong with it.
+fn entry_at(book: &[u8], at: usize, number: usize, before: Code) -> Result<Entry, Fault>
     requires { at ≤ length book.now }
-    ensures { result ≡ fault_of number before (entry_at book.now at) }
+    ensures { result ≡ entry_checked number at before (entry_at book.now at) }
 {
-    if book.len() - at < 3 {
-        return Some(Fault::Cut);
-    }
-    let many = book[at + 2] as usize;
-    if book.len() - at - 3 < many {
-        return Some(Fault::Cut);
-    }
-    if many == 0 || LONGEST < many {
-        return Some(Fault::Name);
-    }
-    if code_at(book, at).is_in_order(number, before) {
-        None
+    let [spa, spq, many, rest @ ..] = &book[at..] else {
+        return Err(Fault::Cut);
+    };
+    let code = Code {
+        spa: *spa,
+        spq: *spq,
+    };
+    let many = *many as usize;
+    if rest.len() < many {
+        Err(Fault::Cut)
+    } else if many == 0 || LONGEST < many {
+        Err(Fault::Name)
+    } else if code.is_in_order(number, before) {
+        let place = Place {
+            number,
+            at: at + 3,
+            many,
+        };
+        Ok(Entry { code, place })
     } else {
-        Some(Fault::Order)
+        Err(Fault::Order)
     }
 }
 
@@ -173,27 +170,24 @@ impl<'a> Iterator for Entries<'a> {
         if book.len() <= at {
             return None;
         }
-        if let Some(fault) = fault_at(book, at, number, before) {
-            self.at = book.len();
-            return Some(Err(BookFault {
-                fault,
-                entry: number,
-            }));
+        match entry_at(book, at, number, before) {
+            Ok(entry) => {
+                *self = Entries {
+                    book,
+                    at: entry.place.at + entry.place.many,
+                    number: number + 1,
+                    before: entry.code,
+                };
+                Some(Ok(entry))
+            }
+            Err(fault) => {
+                self.at = book.len();
+                Some(Err(BookFault {
+                    fault,
+                    entry: number,
+                }))
+            }
         }
-        let code = code_at(book, at);
-        let many = book[at + 2] as usize;
-        let place = Place {
-            number,
-            at: at + 3,
-            many,
-        };
-        *self = Entries {
-            book,
-            at: at + 3 + many,
-            number: number + 1,
-            before: code,
-        };
-        Some(Ok(Entry { code, place }))
     }
 }
 

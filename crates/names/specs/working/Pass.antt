@@ -30,18 +30,27 @@ unfoldable pub read : Checked → Option Place → Passed
 read (Ok sound) found = Ok found
 read (Err why) found = Err why
 
--- the entries as they are checked one behind the other, each by its number, its place and the code before it: one at fault is the last
+-- an entry of a number at a place, or its fault
+abbrev pub unless_at_fault : Option Fault → Entry → Result Entry Fault
+unless_at_fault None entry = Ok entry
+unless_at_fault (Some fault) entry = Err fault
+
+unfoldable pub entry_checked : ℕ → ℕ → Code → List ℕ → Result Entry Fault
+entry_checked number at before e =
+    unless_at_fault (fault_of number before e) (record { code = code_of e; place = place number (at + 3) (length_of e) })
+
 abbrev pub Judged : Type 0
 Judged = Result Entry BookFault
 
-abbrev pub judged_as : Option Fault → ℕ → ℕ → List ℕ → List Judged → List Judged
-judged_as (Some fault) number at e later = Err (record { fault = fault; entry = number }) ∷ []
-judged_as None number at e later = Ok (record { code = code_of e; place = place number (at + 3) (length_of e) }) ∷ later
+abbrev pub judged_as : Result Entry Fault → ℕ → List Judged → List Judged
+judged_as (Ok entry) number later = Ok entry ∷ later
+judged_as (Err fault) number later = Err (record { fault = fault; entry = number }) ∷ []
 
+-- the entries as they are checked one behind the other, each by its number, its place and the code before it: one at fault is the last
 unfoldable pub judged : ℕ → ℕ → Code → List (List ℕ) → List Judged
 judged number at before [] = []
 judged number at before (e ∷ es) =
-    judged_as (fault_of number before e) number at e (judged (number + 1) (at + size_of e) (code_of e) es)
+    judged_as (entry_checked number at before e) number (judged (number + 1) (at + size_of e) (code_of e) es)
 
 -- the pass over entries that are checked, with what was found before them
 unfoldable pub pass_on : Code → Option Place → List Judged → Passed
