@@ -10,9 +10,15 @@ CLAUSE = re.compile(r"\b(requires|ensures|decreases)\*?(?: \w+)? \{")
 IMPL = re.compile(r"impl(?:<[^>]*>)? (\w+)(?:<([^>]*)>)? for (\w+)(?:<[^>]*>)? \{")
 
 
+def public_traits(lines):
+    """The public traits of these lines; where errors are made of others, which `?` does, `From` too."""
+    own = {found.group(1) for line in lines if (found := re.match(r"pub trait (\w+)", line))}
+    return own | {"From"} if any("ghost from_gives" in line for line in lines) else own
+
+
 def impls(lines):
-    """(type, the name under which its proofs stand) of each impl of a public trait of these lines: `u16` and `U16Number2`."""
-    traits = {found.group(1) for line in lines if (found := re.match(r"pub trait (\w+)", line))}
+    """(type, the name under which its proofs stand) of each impl of a public trait: `u16` and `U16Number2`."""
+    traits = public_traits(lines)
     for line in lines:
         if (found := IMPL.match(line)) and found.group(1) in traits:
             trait, parameters, of = found.groups()
@@ -21,7 +27,7 @@ def impls(lines):
 
 def functions(lines):
     """(name, line number from 0, whether it is public) of each function; a method is `Type::name`, and one of a public trait is public."""
-    traits = {found.group(1) for line in lines if (found := re.match(r"pub trait (\w+)", line))}
+    traits = public_traits(lines)
     owner, public = "", False
     for at, line in enumerate(lines):
         if found := IMPL.match(line):

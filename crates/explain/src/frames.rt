@@ -58,15 +58,19 @@ fn user(voice: Voice, user: &[u8], books: &Books) {
 pub(crate) fn explain(voice: Voice, run: &[u8], named: bool, books: &Books) {
     match frame::judge(run) {
         Err(why) => words::number(voice, why.number()),
-        Ok(Judged::Fixed {
-            control: octet,
-            link,
-        }) => control(voice, Form::Fixed, octet, link, named),
-        Ok(Judged::Variable {
-            control: octet,
-            link,
-            users,
-        }) => {
+        Ok(
+            Judged::Fixed {
+                control: octet,
+                link,
+            },
+        ) => control(voice, Form::Fixed, octet, link, named),
+        Ok(
+            Judged::Variable {
+                control: octet,
+                link,
+                users,
+            },
+        ) => {
             control(voice, Form::Variable, octet, link, named);
             user(voice, frame::user(run, users), books);
         }

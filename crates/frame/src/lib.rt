@@ -302,12 +302,7 @@ fn write_into(space: &mut [u8; Judged::LONGEST], reply: Reply) -> u16
     match reply.control {
         Control::Data => {
             let user = reply.user;
-            write_variable(
-                space,
-                control,
-                link,
-                user.as_slice(),
-            )
+            write_variable(space, control, link, user.as_slice())
         }
         Control::Ack | Control::Nack | Control::NothingToGive | Control::Status => {
             write_fixed(space, control, link)

@@ -2,8 +2,8 @@
 
 // The look-up program: calls of the library of names from standard input, a line for each. second/README.md, "The look-up face". It only reads
 // (`stream`), calls (`names`) and writes (`stream`), and decides nothing.
-use octets::Number;
 use names::{Code, Found, Refusal};
+use octets::Number;
 use std::fmt;
 use std::fmt::InlineText;
 use stream::{Input, Output, Texts, Window};
