@@ -30,7 +30,8 @@ pub struct Card {
     pub damaged: u16,
 }
 
-// What a gap returns: document 01's number, how many octets the reply has, an order to the meter with its time octets, the card after it.
+// What a gap returns: document 01's number, how many octets the reply has, an order to the meter with its time octets, the card after it. The number is the
+// paper's own, and `tender`'s theorems speak of it; inside the card a refusal is an error of a Result (`NoAnswer`).
 #[derive(Clone, Copy)]
 pub struct Gone {
     pub number: u8,

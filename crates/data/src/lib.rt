@@ -16,7 +16,8 @@ use fields::{Dates, Identity};
 use message::{Header, ObjectRange};
 use octets::{Kept, Number};
 
-// A message, and how many of the chosen records it has; none, and no octets, when no record is left.
+// A message, and how many of the chosen records it has; none, and no octets, when no record is left. No record is a count as any other, since what is
+// given already is counted on by it.
 #[derive(Clone, Copy)]
 pub struct Portion {
     pub message: Kept,

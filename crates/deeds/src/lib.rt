@@ -10,7 +10,7 @@ use message::{Deed, Request};
 use octets::Kept;
 use rules::{Rule, Session};
 
-// What is given next. The octets of the request stand beside it.
+// What is given next. The octets of the request stand beside it. Nothing is one state of eight and no None: each is met in one match with the others.
 #[derive(Clone, Copy)]
 pub enum Waiting {
     NoReply,

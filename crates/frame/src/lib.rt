@@ -356,7 +356,7 @@ fn write_front(space: &mut [u8; Judged::LONGEST], control: u8, address: u16, use
     octets::put(space, 7, user);
 }
 
-// 68 L L 68 C A A.
+// 68 L L 68 C A A. That there are 252 user octets at most is a clause here and where it is called: a type for such a slice would say no more.
 fn variable_head(control: u8, address: u16, user: &[u8]) -> [u8; 7]
     requires { length user.now ≤ 252 }
     ensures { result ≡ start_with sapr (variable control address user.now) ++ body_of sapr (fixed control address) }

@@ -38,7 +38,7 @@ fn are_valid(found: Option<Dates>) -> bool
     found.is_some_and(|dates| dates.first.is_valid() && dates.second.is_valid())
 }
 
-// By point, record address and label.
+// By point, record address and label; no PartialOrd, as with labels.
 #[tactic(auto, unfolding(crate::specs::working::Keys::key_before, crate::specs::working::Keys::by_key))]
 fn is_before(mine: Key, other: Key) -> bool
     ensures { result ≡ key_before mine other }

@@ -218,7 +218,8 @@ impl LabelA {
         }
     }
 
-    // Whether it lies before another label by their instants.
+    // Whether it lies before another label by their instants. It is no PartialOrd: labels that differ may have one instant, and an order says Equal only
+    // where `==` holds.
     pub fn is_before(self, other: LabelA) -> bool
         ensures { result ≡ before_a self other }
     {

@@ -14,7 +14,8 @@ use octets::Kept;
 use rules::Session;
 use waiting::Next;
 
-// Whether a reset was answered since power-on, the last FCB, the session, the remembered reply, what waits.
+// Whether a reset was answered since power-on, the last FCB, the session, the remembered reply, what waits. The FCB stands beside the flag and not in
+// an Option: `answer` takes any link, one that is not reset and has FCB 1 too.
 #[derive(Clone, Copy)]
 pub struct Link {
     pub reset: bool,
@@ -24,7 +25,8 @@ pub struct Link {
     pub pending: Pending,
 }
 
-// What is sent: nothing, before the first reset; the remembered reply, be it new or not; the status, with the link address that it carries.
+// What is sent: nothing, before the first reset; the remembered reply, be it new or not; the status, with the link address that it carries. Nothing is a
+// case and no None, since it says why.
 #[derive(Clone, Copy)]
 pub enum Sends {
     NotReset,

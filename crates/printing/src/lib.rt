@@ -150,7 +150,8 @@ fn put_part(out: &mut [u8], at: usize, part: &[u8]) -> usize
     at + part.len()
 }
 
-// Writes a line for which there is room: its head, the pairs of some octets with `before` in front of each, a newline.
+// Writes a line for which there is room: its head, the pairs of some octets with `before` in front of each, a newline. The place of writing is kept by hand:
+// a pair with what stands in front of it has two octets or three, so that no chunks of one size fit.
 fn put_line(out: &mut [u8], head: &[u8], before: &[u8], octets: &[u8]) -> usize
     requires { length head.now + length (pairs before.now octets.now) < length out.old }
     ensures { PutAt out.old 0 (head.now ++ pairs before.now octets.now ++ newline) result out.new }

@@ -23,7 +23,8 @@ pub enum Session {
     Open(PointAddress),
 }
 
-// The rules by which a message is refused, in document 01's order, and that none of them applies.
+// The rules by which a message is refused, in document 01's order, and that none of them applies: a case and no None, since it has a cause, a P/N, a deed
+// and a place as each rule has (`ruling` of specs/).
 #[derive(Clone, Copy)]
 pub enum Rule {
     Marked,

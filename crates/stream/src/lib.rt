@@ -101,7 +101,8 @@ fn read_behind(mut input: Stdin, space: &mut [u8], have: usize) -> usize
     input.read(&mut space[have..]).unwrap_or(0)
 }
 
-// Reads behind the first so many octets, until `size` stand there, the space is full, or the input ends.
+// Reads behind the first so many octets, until `size` stand there, the space is full, or the input ends. What it counts is what each read brings, and no
+// index.
 fn read_on(input: Stdin, space: &mut [u8], had: usize, size: usize) -> usize
     requires { had ≤ length space.old }
     ensures { (had ≤ result) × (result ≤ length space.old) × Kept had space.old space.new }
