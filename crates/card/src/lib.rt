@@ -128,6 +128,7 @@ fn examine_frame(
     }
 }
 
+// The user octets are those of a sound frame: 252 at most, a clause here as in frame.
 fn hear(asked: Option<Service>, user: &[u8]) -> Result<Asked, NoAnswer>
     requires { length user.now ≤ 252 }
     ensures { result ≡ heard asked user.now }

@@ -146,7 +146,8 @@ fn event_octets(image: &[u8], at: usize) -> [u8; 9]
     ]
 }
 
-// Up to 27 events' octets, without a header: how many they are is known when the last has come.
+// Up to 27 events' octets, without a header: how many they are is known when the last has come. An
+// iterator over the chosen would be a type that holds `find` and `next` of choice, for this one loop.
 fn gathered(image: &[u8], span: Span, before: usize) -> Portion
     ensures { let rs = take 27 (drop before (choice (Event span) image.now)) in result ≡ portion (events_octets rs) (length rs) }
 {

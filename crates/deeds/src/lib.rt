@@ -27,7 +27,7 @@ pub enum Waiting {
 }
 
 // An order to the meter. Its time octets stand beside it and not in it, and no order is a case of it and no None: `tender`'s theorems (`no_time_law`,
-// the wrong card `babbler`) say what the time octets are where there is no order.
+// the wrong card `babbler`) say what the time octets are where there is no order, and name the two side by side.
 #[derive(Clone, Copy)]
 pub enum Order {
     NoOrder,

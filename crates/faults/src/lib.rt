@@ -200,8 +200,8 @@ fn point_rule(kind: u8, points: usize, known: bool) -> Option<ImageRule>
 }
 
 // Where a walk over the records stands: how many are passed, how many of them are points, where the last of them stands, and the place behind it.
-// The image is lent beside it, as the definitions have it; and that a whole record stands there is asked of callers, since the walk also stands
-// at the records' end.
+// The image is lent beside it, as the definitions have it. That a whole record stands there is a clause and no type's: the walk stands at the
+// records' end too, and a type for the rest of its way would be built at one place, to be asked once.
 #[derive(Clone, Copy)]
 struct Walk {
     passed: usize,

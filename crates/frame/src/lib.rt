@@ -17,11 +17,11 @@ use octets::{Kept, Number};
 // finds none wrong.
 #[derive(Clone, Copy, Debug, PartialEq, Eq)]
 pub enum Fault {
-    Empty,
-    Long,
-    Parity,
-    Malformed,
-    Spoiled,
+    Empty = 1,
+    Long = 2,
+    Parity = 10,
+    Malformed = 3,
+    Spoiled = 4,
 }
 
 // A sound frame.
@@ -31,7 +31,7 @@ pub enum Judged {
         control: u8,
         link: LinkAddress,
     },
-    // How many user octets there are; they are handed out by `user`.
+    // How many user octets there are. `user` hands them out: a slice of them here would keep the run lent as long as what is judged is held.
     Variable {
         control: u8,
         link: LinkAddress,
@@ -140,13 +140,7 @@ impl Fault {
     pub fn number(self) -> u8
         ensures { result ≡ fault_number self }
     {
-        match self {
-            Fault::Empty => 1,
-            Fault::Long => 2,
-            Fault::Parity => 10,
-            Fault::Malformed => 3,
-            Fault::Spoiled => 4,
-        }
+        self as u8
     }
 }
 
@@ -310,7 +304,8 @@ fn write_into(space: &mut [u8; Judged::LONGEST], reply: Reply) -> u16
     }
 }
 
-// C A A: the control field, and the address low octet first.
+// C A A: the control field, and the address low octet first. The two are given apart here and below, as the definition's `fixed` and `variable` take
+// them: a struct of both would be `Judged::Fixed` once more.
 fn control_and_address(control: u8, address: u16) -> [u8; 3]
     ensures { result ≡ body_of sapr (fixed control address) }
 {
@@ -380,7 +375,7 @@ fn variable_end(control: u8, address: u16, user: &[u8]) -> [u8; 2]
 {
     let body = control_and_address(control, address);
     [
-        std::num::wrapping_add_u8(octets::checksum(&body), octets::checksum(user)),
+        octets::checksum(&body).wrapping_add(octets::checksum(user)),
         Judged::END,
     ]
 }

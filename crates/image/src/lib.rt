@@ -66,7 +66,7 @@ pub fn in_order(front: Key, behind: Key) -> bool
     }
 }
 
-// The key that stands before every record.
+// The key that stands before every record. It is that of `fields::other_key` at kind 0, which is private there: to hand it out would be one promise more.
 fn before_all() -> Key
     ensures { result ≡ key 0 0 0 no_label }
 {
@@ -262,7 +262,8 @@ struct Walk {
     last: Key,
 }
 
-// The walk past the run that goes on behind a record of its kind, or none where a record of the run does not fit.
+// The walk past the run that goes on behind a record of its kind, or none where a record of the run does not fit. The
+// next one stands behind the octets of its kind: an iterator over places would read each length again.
 fn past_run<S: Series>(image: &[u8], from: Walk) -> Option<Walk>
     requires { (from.last.kind ≡ S.kind) × Passed image.now from.last }
     ensures { MatchOption result (left image.now from.at from.last ≡ false) (λ walk. Onward image.now from walk) }

@@ -56,10 +56,7 @@ fn data_reply(message: Kept, address: LinkAddress) -> Reply
 fn link_in(found: Option<Identity>) -> LinkAddress
     ensures { result ≡ link_in found }
 {
-    match found {
-        Some(identity) => identity.link,
-        None => LinkAddress(0),
-    }
+    found.map_or(LinkAddress(0), |identity| identity.link)
 }
 
 // Without an order to the meter.
@@ -130,7 +127,7 @@ impl Link {
         )
     }
 
-    // ACK, and the message is carried out.
+    // ACK, and the message is carried out. Address and bit are given apart here and below: a reply takes the one, and what is noted the other.
     #[tactic(auto, unfolding(crate::specs::Answering::carried))]
     fn carried(self, address: LinkAddress, bit: u8, done: Carried) -> Answered
         ensures { result ≡ carried address bit self done }

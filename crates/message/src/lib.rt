@@ -40,7 +40,8 @@ pub struct Request {
     pub password: u32,
 }
 
-// What a message does: nothing, since a rule refuses it; a wrong password closes the session; and the table's last column.
+// What a message does: nothing, since a rule refuses it; a wrong password closes the session; and the table's last column. Refused is one of them
+// and no None: `deed_of` and the theorems on it give every message one deed.
 #[derive(Clone, Copy)]
 pub enum Deed {
     Refused,

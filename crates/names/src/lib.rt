@@ -45,7 +45,8 @@ pub struct Refusal {
     pub why: BookFault,
 }
 
-// A name that is found: the book and the entry, and where the name lies in the book, with how many octets.
+// A name that is found: the book and the entry, and where the name lies in the book, with how many octets. It is told by these four in the contracts
+// and to the programs, and holds no Place.
 #[derive(Clone, Copy, PartialEq, Eq)]
 pub struct Found {
     pub book: Which,

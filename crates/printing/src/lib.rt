@@ -12,7 +12,7 @@ use std::marker::Model;
 
 const HEX_FIGURES: [u8; 16] = *b"0123456789ABCDEF";
 
-// An octet in hex.
+// An octet in hex. The table is plainer here than a formatter: a line is laid from arrays, in no String.
 fn pair(octet: u8) -> [u8; 2]
     ensures { result ≡ pair_of octet }
 {

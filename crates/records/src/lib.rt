@@ -64,7 +64,7 @@ pub fn after(s: &[u8], at: usize) -> usize
     }
 }
 
-// The places of the whole records from a place on, one behind the other: what every walk over records goes by.
+// The places of the whole records from a place on, one behind the other: what a walk over records goes by that asks them one by one.
 #[derive(Clone, Copy)]
 pub struct PlacesFrom<'a> {
     pub octets: &'a [u8],

@@ -179,10 +179,7 @@ fn is_dated(image: &[u8]) -> bool
 fn does_open(found: Option<Point>, password: u32) -> bool
     ensures { result ≡ opens found password }
 {
-    match found {
-        Some(point) => point.password == password,
-        None => false,
-    }
+    found.is_some_and(|point| point.password == password)
 }
 
 // A rule, unless what it asks holds.
@@ -192,7 +189,8 @@ fn unless(holds: bool, rule: Rule) -> Rule
     if holds { Rule::Accepted } else { rule }
 }
 
-// Labels, their order and what they choose, each refused by its rule.
+// Labels, their order and what they choose, each refused by its rule. The three rules are named where they are given: a struct of them would be
+// built for the call and taken apart here.
 fn ranged(
     image: &[u8],
     request: Request,

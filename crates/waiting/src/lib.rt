@@ -46,7 +46,7 @@ fn mirror_with(request: Kept, pn: bool, cause: u8) -> Next
     lastly(message::mirrored(request, pn, cause))
 }
 
-// Data with so many of the chosen given already.
+// Data with so many of the chosen given already. Request and clock are given apart: most of what is below asks for the request alone.
 #[tactic(auto, unfolding(crate::specs::NextReply::data_pending))]
 fn data(request: Kept, clock: [u8; 7], before: usize) -> Pending
     ensures { result ≡ data_pending request clock before }
@@ -88,10 +88,10 @@ fn identity_from(request: Kept, found: Option<Identity>) -> Next
 fn dates_from(request: Kept, found: Option<Dates>) -> Next
     ensures { result ≡ dates_from request found }
 {
-    let Some(dates) = found else {
-        return mirror_with(request, false, 14);
-    };
-    lastly(data::dates(asked(request).header.point, dates))
+    match found {
+        Some(dates) => lastly(data::dates(asked(request).header.point, dates)),
+        None => mirror_with(request, false, 14),
+    }
 }
 
 #[tactic(auto, unfolding(crate::specs::NextReply::clock_from))]
@@ -128,11 +128,12 @@ fn after_data(request: Kept, clock: [u8; 7], before: usize, some: Portion) -> Ne
     ensures { result ≡ after_data request clock before some }
 {
     if some.many == 0 {
-        return mirror_with(request, false, 10);
-    }
-    Next {
-        message: Some(some.message),
-        pending: data(request, clock, before + some.many),
+        mirror_with(request, false, 10)
+    } else {
+        Next {
+            message: Some(some.message),
+            pending: data(request, clock, before + some.many),
+        }
     }
 }
 
