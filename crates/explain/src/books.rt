@@ -4,45 +4,48 @@ use crate::voice::Voice;
 use crate::words;
 use names::{BookFault, Code, Which as Book};
 
-// The two books, and whether one has been given.
+// The two books, as far as they have been given.
 #[derive(Drop)]
 pub struct Books {
-    chosen: Held,
-    italian: Held,
-    pub are_given: bool,
+    chosen: Option<Held>,
+    italian: Option<Held>,
 }
 
-// A book without entries.
-fn empty() -> Held {
-    let mut book = Held::new();
-    book.push(1);
-    book
+// A book's octets; one that has not been given is without entries.
+fn octets(book: &Option<Held>) -> &[u8] {
+    match book {
+        Some(book) => book.octets(),
+        None => b"\x01",
+    }
 }
 
 impl Books {
     pub(crate) fn new() -> Books {
         Books {
-            chosen: empty(),
-            italian: empty(),
-            are_given: false,
+            chosen: None,
+            italian: None,
         }
+    }
+
+    // Whether one of them has been given.
+    pub(crate) fn are_given(&self) -> bool {
+        self.chosen.is_some() || self.italian.is_some()
     }
 
     // A book is lent, sound or not.
     pub(crate) fn lend(&mut self, voice: Voice, which: Book, book: &Held) {
         words::book(voice, which, book.octets().len());
         checked(voice, names::check(book.octets()));
-        self.are_given = true;
         match which {
-            Book::Chosen => self.chosen = *book,
-            Book::Italian => self.italian = *book,
+            Book::Chosen => self.chosen = Some(*book),
+            Book::Italian => self.italian = Some(*book),
         }
     }
 
     // The name of an event's code, with the book and the entry that have it; or that there is none, or which book is refused.
     pub(crate) fn name(&self, voice: Voice, code: Code) {
-        let chosen = self.chosen.octets();
-        let italian = self.italian.octets();
+        let chosen = octets(&self.chosen);
+        let italian = octets(&self.italian);
         let looked_up = names::look_up(chosen, italian, code);
         match looked_up {
             Err(refusal) => {

@@ -18,7 +18,7 @@ fn counted(service: u8, last: u8) -> u8 {
     }
 }
 
-// The link address of the card that is lent an image.
+// The link address of the card that is lent an image. `link` has the like to itself: a public function there would be a promise more.
 fn link_of(image: &[u8]) -> LinkAddress {
     match fields::identity_of(image) {
         Some(identity) => identity.link,

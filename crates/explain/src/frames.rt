@@ -28,11 +28,11 @@ fn reply(voice: Voice, reply: Control, named: bool) {
 // A control field that asks for nothing that is offered. Bit 7 is set in the centre's, and in no reply's.
 fn other(voice: Voice, form: Form, control: u8, named: bool) {
     if control & 0x40 != 0 {
-        return words::number(voice, 6);
-    }
-    match reply_of(form, control) {
-        Some(found) => reply(voice, found, named),
-        None => words::no_reply(voice, control),
+        words::number(voice, 6);
+    } else if let Some(found) = reply_of(form, control) {
+        reply(voice, found, named);
+    } else {
+        words::no_reply(voice, control);
     }
 }
 
@@ -48,10 +48,11 @@ fn control(voice: Voice, form: Form, control: u8, to: LinkAddress, named: bool) 
 fn user(voice: Voice, user: &[u8], books: &Books) {
     words::user_octets(voice, user.len());
     if user.len() < 6 {
-        return messages::unused(voice, user);
+        messages::unused(voice, user);
+    } else {
+        voice.new_line();
+        messages::explain(voice.indented(), user, books);
     }
-    voice.new_line();
-    messages::explain(voice.indented(), user, books)
 }
 
 // A run; what it carries begins new lines, and a reply is said to be one where it is to be `named`.

@@ -4,7 +4,7 @@ ghost use Rattle.std.specs.Prelude.{◌≤◌, length};
 // As many as the longest request gives.
 const ROOM: usize = 65600;
 
-// The first so many of them.
+// The first so many of them. An array with a count and no Vec: the project's rule is fixed memory and no heap.
 #[derive(Clone, Copy)]
 pub struct Held {
     octets: [u8; ROOM],

@@ -5,6 +5,7 @@ use crate::{messages, words};
 use faults::ImageFault;
 use fields::Key;
 use label::LabelB;
+use records::PlacesFrom;
 
 // Records of one kind, point and record address that stand together: the first, how many, and the last one's label.
 #[derive(Clone, Copy)]
@@ -39,16 +40,14 @@ impl Group {
 }
 
 fn identity(voice: Voice, image: &[u8]) {
-    match fields::identity_of(image) {
-        Some(identity) => words::head(voice, identity),
-        None => {}
+    if let Some(identity) = fields::identity_of(image) {
+        words::head(voice, identity);
     }
 }
 
 fn dates(voice: Voice, image: &[u8]) {
-    match fields::dates_of(image) {
-        Some(dates) => messages::switch_dates(voice, dates.first, dates.second),
-        None => {}
+    if let Some(dates) = fields::dates_of(image) {
+        messages::switch_dates(voice, dates.first, dates.second);
     }
 }
 
@@ -76,13 +75,14 @@ fn counted(voice: Voice, group: Group) {
 // A group that has ended. The dates are on two lines of their own.
 fn told(voice: Voice, group: Group, image: &[u8]) {
     if group.first.kind == 3 {
-        return dates(voice, image);
-    }
-    voice.new_line();
-    match group.first.kind {
-        1 => identity(voice, image),
-        2 => words::point(voice, group.first.point),
-        _ => counted(voice, group),
+        dates(voice, image);
+    } else {
+        voice.new_line();
+        match group.first.kind {
+            1 => identity(voice, image),
+            2 => words::point(voice, group.first.point),
+            _ => counted(voice, group),
+        }
     }
 }
 
@@ -113,32 +113,32 @@ fn tell_missing(voice: Voice, from: u8, to: u8) {
     }
 }
 
-// The key of the image's end is of kind 0.
-fn or_end(kind: u8) -> u8 {
-    match kind {
-        0 => 6,
-        _ => kind,
-    }
+// A group that has ended, and what does not come between it and a record of another kind, or the end.
+fn ended(voice: Voice, group: Group, next: u8, image: &[u8]) {
+    told(voice, group, image);
+    tell_missing(voice, group.first.kind, next);
 }
 
-// Record after record of a sound image, which has fewer than 65,535.
+// Record after record of a sound image.
 fn records(voice: Voice, image: &[u8]) {
-    let mut at = 1;
-    let mut group = Group::begun(fields::key_at(image, at));
-    for _ in 0..65535 {
-        at = records::after(image, at);
-        let next = fields::key_at(image, at);
+    let mut keys = PlacesFrom {
+        octets: image,
+        at: 1,
+    }
+    .map(|at| fields::key_at(image, at));
+    let Some(first) = keys.next() else {
+        return;
+    };
+    let mut group = Group::begun(first);
+    for next in keys {
         if group.has(next) {
             group = group.with(next);
         } else {
-            told(voice, group, image);
-            tell_missing(voice, group.first.kind, or_end(next.kind));
+            ended(voice, group, next.kind, image);
             group = Group::begun(next);
         }
-        if next.kind == 0 {
-            return;
-        }
     }
+    ended(voice, group, 6, image);
 }
 
 // What is wrong with an image: the record at fault is named, where it is not the image as a whole.

@@ -102,7 +102,7 @@ fn event(voice: Voice, m: &[u8], books: &Books) {
     let code = code(voice, *first, *second);
     words::labelled(voice);
     Shown::from(LabelB::read(label)).tell(voice);
-    if books.are_given {
+    if books.are_given() {
         books.name(voice, code);
     }
 }

@@ -27,19 +27,13 @@ impl Reading {
         self.window.seen(&self.space)
     }
 
-    // The window begins with a whole line, or with what is left of the input, or it is full. Each turn reads once.
+    // The window begins with a whole line, or with what is left of the input, or it is full.
     pub(crate) fn read_line(&mut self) {
-        for _ in 0..u64::MAX {
-            let had = self.read().len();
-            let size = lines::size(self.read());
-            self.window = self.window.filled(self.from, &mut self.space, size);
-            if self.read().len() == had {
-                return;
-            }
-        }
+        self.window = self.window.read(self.from, &mut self.space, lines::size);
     }
 
-    // The first line is passed, which is read on where it is too long.
+    // The first line is passed, which is read on where it is too long. Counted turns and no `loop`: a line may go on as long as the input, so no
+    // measure would serve.
     pub(crate) fn pass_line(&mut self) {
         for _ in 0..u64::MAX {
             let long = self.is_too_long();

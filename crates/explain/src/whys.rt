@@ -8,6 +8,7 @@ use address::PointAddress;
 use card::Card;
 use label::{LabelA, LabelB};
 use message::{Request, Row};
+use records::PlacesFrom;
 use rules::{Rule, Session};
 use why::Unasked;
 
@@ -15,9 +16,11 @@ use why::Unasked;
 
 // The points of a sound image, of which eight at most stand behind its first record, and the one asked for.
 fn points(voice: Voice, image: &[u8], asked: PointAddress) {
-    let mut at = 1;
-    for before in 0..8 {
-        at = records::after(image, at);
+    let places = PlacesFrom {
+        octets: image,
+        at: 1,
+    };
+    for (before, at) in places.skip(1).take(8).enumerate() {
         let key = fields::key_at(image, at);
         if key.kind == 2 {
             words::listed(voice, key.point, before);
@@ -49,20 +52,16 @@ fn differing(row: Row, request: Request) -> [Option<Part>; 4] {
 }
 
 fn shape(voice: Voice, request: Request) {
-    match message::row_of(request.header.type_id) {
-        Some(row) => {
-            words::shape(voice, row);
-            words::shaped(voice, differing(row, request));
-        }
-        None => {}
+    if let Some(row) = message::row_of(request.header.type_id) {
+        words::shape(voice, row);
+        words::shaped(voice, differing(row, request));
     }
 }
 
 fn address(voice: Voice, request: Request) {
     let head = request.header;
-    match message::row_of(head.type_id) {
-        Some(row) => words::addresses(voice, row.addresses, head.record_address),
-        None => {}
+    if let Some(row) = message::row_of(head.type_id) {
+        words::addresses(voice, row.addresses, head.record_address);
     }
 }
 
@@ -96,10 +95,11 @@ fn time(voice: Voice, label: LabelB) {
 // 181 sets one label b, 186 two labels a.
 fn to_set(voice: Voice, request: Request) {
     if request.header.type_id == 181 {
-        return time(voice, request.time);
+        time(voice, request.time);
+    } else {
+        fault(voice, Role::FirstSwitch, request.first);
+        fault(voice, Role::SecondSwitch, request.last);
     }
-    fault(voice, Role::FirstSwitch, request.first);
-    fault(voice, Role::SecondSwitch, request.last);
 }
 
 // A message, and what it is judged by.

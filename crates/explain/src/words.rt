@@ -726,7 +726,7 @@ pub(crate) fn marked(voice: Voice, octet: u8) {
 }
 
 // A point of the image, behind so many others.
-pub(crate) fn listed(voice: Voice, point: PointAddress, before: u8) {
+pub(crate) fn listed(voice: Voice, point: PointAddress, before: usize) {
     let comma = if before == 0 { "" } else { "," };
     say!(voice, "{comma} {}", point.0)
 }
