@@ -3,78 +3,87 @@
 // The driving program: calls of a card from standard input, a line for each gap. second/README.md, "The driving face". It only reads
 // (`stream`), steps (`driving`) and writes (`stream`), each line at once.
 use driving::Held;
+use profile::Profile;
 use std::io::Stdout;
 use stream::{Input, Texts, Window};
 
-// What is kept between two calls beside the image's space and the reply buffer: what is held, and how many octets of the image's space count.
-#[derive(Clone, Copy)]
-struct Bench {
-    held: Held,
-    image: usize,
+// The image that is lent: the first so many octets of a space.
+#[derive(Drop)]
+struct Image<'a> {
+    space: &'a mut [u8],
+    count: usize,
 }
 
-// A call is done, its text written. Answers what is kept, if another call may follow.
+impl<'a> Image<'a> {
+    fn lent(&self) -> &[u8] {
+        octets::part(self.space, 0, self.count)
+    }
+
+    // That of an I takes the place of the one before.
+    fn follow(&mut self, profile: Profile, call: &[u8]) {
+        self.count = driving::image_after(profile, self.space, self.count, call);
+    }
+}
+
+// A call is done, its text written. Answers what is held, if another call may follow.
 fn done(
     output: Stdout,
-    bench: Bench,
+    held: Held,
     call: &[u8],
-    image: &mut [u8],
+    image: &mut Image<'_>,
     buffer: &mut [u8],
-) -> Option<Bench> {
+) -> Option<Held> {
     let mut text = [0u8; 1024];
-    let lent = octets::part(image, 0, bench.image);
-    let left = driving::step(&mut text, bench.held, lent, buffer, call);
+    let left = driving::step(&mut text, held, image.lent(), buffer, call);
+    image.follow(held.profile, call);
     let texts = Texts {
         count: left.count,
         going: left.more,
     };
-    let next = Bench {
-        held: left.held,
-        image: driving::image_after(bench.held.profile, image, bench.image, call),
-    };
-    texts.out(output, &text).going.then_some(next)
+    texts.out(output, &text).going.then_some(left.held)
 }
 
 // The next call of the input: a letter and what follows it.
 fn turn(
     from: &mut Input<'_>,
     output: Stdout,
-    bench: Bench,
-    image: &mut [u8],
+    held: Held,
+    image: &mut Image<'_>,
     buffer: &mut [u8],
-) -> Option<Bench> {
-    let profile = bench.held.profile;
+) -> Option<Held> {
+    let profile = held.profile;
     from.read(|read: &[u8]| input::call_size(profile, read));
     let read = from.seen();
     let size = input::call_size(profile, read);
-    let next = done(output, bench, octets::part(read, 0, size), image, buffer);
+    let next = done(output, held, octets::part(read, 0, size), image, buffer);
     from.take(size);
     next
 }
 
 // Calls until the input ends. A loop must end, so it has a budget that no input uses up.
-fn calls(from: &mut Input<'_>, output: Stdout, image: &mut [u8], buffer: &mut [u8]) {
-    let mut bench = Bench {
-        held: driving::start(),
-        image: 0,
-    };
+fn calls(from: &mut Input<'_>, output: Stdout, image: &mut Image<'_>, buffer: &mut [u8]) {
+    let mut held = driving::start();
     for _ in 0..u64::MAX {
-        let Some(next) = turn(from, output, bench, image, buffer) else {
+        let Some(next) = turn(from, output, held, image, buffer) else {
             return;
         };
-        bench = next;
+        held = next;
     }
 }
 
 fn main(rt: HostRuntime) {
     // The longest call, a P of 65,535 characters, has 131,073 octets.
     let mut space = [0u8; 196608];
-    let mut image = [0u8; 65600];
+    let mut image_space = [0u8; 65600];
     let mut buffer = [0xAAu8; 300];
     let mut from = Input {
         from: rt.stdin(),
         space: &mut space,
         window: Window::default(),
+    };
+    let mut image = Image {
+        space: &mut image_space,
+        count: 0,
     };
     calls(&mut from, rt.stdout(), &mut image, &mut buffer);
 }
