@@ -7,7 +7,8 @@ use profile::Profile;
 use std::io::Stdout;
 use stream::{Input, Texts, Window};
 
-// The image that is lent: the first so many octets of a space.
+// The image that is lent: the first so many octets of a space. It is no Vec, since the project's rule is fixed memory and no heap. The reply buffer
+// stands beside it and in no struct with it: a call is lent both, and no loan of one field behind a reference is proved while another is lent.
 #[derive(Drop)]
 struct Image<'a> {
     space: &'a mut [u8],

@@ -11,8 +11,8 @@ use stream::{Input, Output, Texts, Window};
 // The most octets of a book that is taken: more than a book of every SPA with every seven-bit SPQ has.
 const MOST: usize = 1500000;
 
-// A book that is lent: the first so many octets of a space. It is no Vec, since the project's rule is fixed memory and no heap; the program that makes a
-// book has a space of its own kind, since by crates.txt no crate below both holds one.
+// A book that is lent: the first so many octets of a space. It is no Vec, since the project's rule is fixed memory and no heap. The Book of
+// the program `book` is another type: it grows behind what it has, this one is laid anew, and neither program knows the other (crates.txt).
 #[derive(Drop)]
 struct Shelf<'a> {
     space: &'a mut [u8],
