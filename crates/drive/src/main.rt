@@ -7,8 +7,7 @@ use profile::Profile;
 use std::io::Stdout;
 use stream::{Input, Texts, Window};
 
-// The image that is lent: the first so many octets of a space. It is no Vec, since the project's rule is fixed memory and no heap. The reply buffer
-// stands beside it and in no struct with it: a call is lent both, and no loan of one field behind a reference is proved while another is lent.
+// The image that is lent: the first so many octets of a space. It is no Vec, since the project's rule is fixed memory and no heap.
 #[derive(Drop)]
 struct Image<'a> {
     space: &'a mut [u8],
@@ -26,65 +25,66 @@ impl<'a> Image<'a> {
     }
 }
 
-// A call is done, its text written. Answers what is held, if another call may follow.
-fn done(
-    output: Stdout,
+// What is kept between two calls: what is held, the image, and the reply buffer.
+#[derive(Drop)]
+struct Bench<'a> {
     held: Held,
-    call: &[u8],
-    image: &mut Image<'_>,
-    buffer: &mut [u8],
-) -> Option<Held> {
-    let mut text = [0u8; 1024];
-    let left = driving::step(&mut text, held, image.lent(), buffer, call);
-    image.follow(held.profile, call);
-    let texts = Texts {
-        count: left.count,
-        going: left.more,
-    };
-    texts.out(output, &text).going.then_some(left.held)
+    image: Image<'a>,
+    buffer: [u8; 300],
 }
 
-// The next call of the input: a letter and what follows it.
-fn turn(
-    from: &mut Input<'_>,
-    output: Stdout,
-    held: Held,
-    image: &mut Image<'_>,
-    buffer: &mut [u8],
-) -> Option<Held> {
-    let profile = held.profile;
+impl<'a> Bench<'a> {
+    // A call is done, its text written. Answers whether another may follow.
+    fn done(&mut self, output: Stdout, call: &[u8]) -> bool {
+        let mut text = [0u8; 1024];
+        let held = self.held;
+        let left = driving::step(&mut text, held, self.image.lent(), &mut self.buffer, call);
+        self.image.follow(held.profile, call);
+        self.held = left.held;
+        let texts = Texts {
+            count: left.count,
+            going: left.more,
+        };
+        texts.out(output, &text).going
+    }
+}
+
+// The next call of the input: a letter and what follows it. Answers whether another may follow.
+fn turn(from: &mut Input<'_>, output: Stdout, bench: &mut Bench<'_>) -> bool {
+    let profile = bench.held.profile;
     from.read(|read: &[u8]| input::call_size(profile, read));
     let read = from.seen();
     let size = input::call_size(profile, read);
-    let next = done(output, held, octets::part(read, 0, size), image, buffer);
+    let more = bench.done(output, octets::part(read, 0, size));
     from.take(size);
-    next
+    more
 }
 
 // Calls until the input ends. A loop must end, so it has a budget that no input uses up.
-fn calls(from: &mut Input<'_>, output: Stdout, image: &mut Image<'_>, buffer: &mut [u8]) {
-    let mut held = driving::start();
+fn calls(from: &mut Input<'_>, output: Stdout, bench: &mut Bench<'_>) {
     for _ in 0..u64::MAX {
-        let Some(next) = turn(from, output, held, image, buffer) else {
+        if !turn(from, output, bench) {
             return;
-        };
-        held = next;
+        }
     }
 }
 
 fn main(rt: HostRuntime) {
     // The longest call, a P of 65,535 characters, has 131,073 octets.
     let mut space = [0u8; 196608];
-    let mut image_space = [0u8; 65600];
-    let mut buffer = [0xAAu8; 300];
+    let mut image = [0u8; 65600];
     let mut from = Input {
         from: rt.stdin(),
         space: &mut space,
         window: Window::default(),
     };
-    let mut image = Image {
-        space: &mut image_space,
-        count: 0,
+    let mut bench = Bench {
+        held: driving::start(),
+        image: Image {
+            space: &mut image,
+            count: 0,
+        },
+        buffer: [0xAA; 300],
     };
-    calls(&mut from, rt.stdout(), &mut image, &mut buffer);
+    calls(&mut from, rt.stdout(), &mut bench);
 }
