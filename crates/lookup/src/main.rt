@@ -199,26 +199,34 @@ fn done(to: &mut Output<'_>, books: &mut Books<'_>, read: &[u8]) {
     }
 }
 
+// The look-up face: what is read, what is written, and the books.
+#[derive(Drop)]
+struct Face<'a> {
+    from: Input<'a>,
+    to: Output<'a>,
+    books: Books<'a>,
+}
+
 // The next call of the input. What waits is written where it is still to be read.
-fn turn(from: &mut Input<'_>, to: &mut Output<'_>, books: &mut Books<'_>) {
-    let read = from.seen();
+fn turn(face: &mut Face<'_>) {
+    let read = face.from.seen();
     if read.len() < call_size(read) {
-        to.out();
+        face.to.out();
     }
-    from.read(call_size);
-    let read = from.seen();
+    face.from.read(call_size);
+    let read = face.from.seen();
     let size = call_size(read);
-    done(to, books, octets::part(read, 0, size));
-    from.take(size);
+    done(&mut face.to, &mut face.books, octets::part(read, 0, size));
+    face.from.take(size);
 }
 
 // Calls until the input ends. A loop must end, so it has a budget that no input uses up.
-fn calls(from: &mut Input<'_>, to: &mut Output<'_>, books: &mut Books<'_>) {
+fn calls(face: &mut Face<'_>) {
     for _ in 0..u64::MAX {
-        if !to.texts.going {
+        if !face.to.texts.going {
             return;
         }
-        turn(from, to, books);
+        turn(face);
     }
 }
 
@@ -227,18 +235,18 @@ fn main(rt: HostRuntime) {
     let mut chosen = [0u8; 1500000];
     let mut italian = [0u8; 1500000];
     let mut block = [0u8; 4096];
-    calls(
-        &mut Input {
+    calls(&mut Face {
+        from: Input {
             from: rt.stdin(),
             space: &mut space,
             window: Window::default(),
         },
-        &mut Output {
+        to: Output {
             to: rt.stdout(),
             block: &mut block,
             texts: Texts::NONE,
         },
-        &mut Books {
+        books: Books {
             chosen: Shelf {
                 space: &mut chosen,
                 count: 0,
@@ -248,5 +256,5 @@ fn main(rt: HostRuntime) {
                 count: 0,
             },
         },
-    );
+    });
 }
