@@ -42,28 +42,30 @@ fn keep_lines(text: &[u8], places: &mut Places) -> Result<(), Complaint> {
 
 // ---- the book ----
 
-// A book in the making: the first so many octets of a space.
+// A book in the making: the first so many octets of a space. It is no Vec, since the project's rule is fixed memory and no heap.
 #[derive(Drop)]
 struct Book<'a> {
     space: &'a mut [u8],
     count: usize,
 }
 
-fn add(book: &mut Book<'_>, octets: &[u8]) {
-    octets::put(book.space, book.count, octets);
-    book.count = book.count.saturating_add(octets.len());
+impl<'a> Book<'a> {
+    fn add(&mut self, octets: &[u8]) {
+        octets::put(self.space, self.count, octets);
+        self.count = self.count.saturating_add(octets.len());
+    }
 }
 
 // The version, and an entry for each code that has a name. Answers how many octets the book has.
 fn make(text: &[u8], places: &Places, space: &mut [u8]) -> usize {
     let mut book = Book { space, count: 0 };
-    add(&mut book, &[1]);
+    book.add(&[1]);
     for (code, place) in places.iter().enumerate() {
         if 0 < *place {
             let name = lines::trimmed(lines::line_at(text, *place));
             let [spa, spq] = [(code / 256 % 256) as u8, (code % 256) as u8];
-            add(&mut book, &[spa, spq, (name.len() % 256) as u8]);
-            add(&mut book, name);
+            book.add(&[spa, spq, (name.len() % 256) as u8]);
+            book.add(name);
         }
     }
     book.count

@@ -25,7 +25,8 @@ pub struct Held {
 }
 
 // What a call leaves: how many octets its text has, what is held, whether another may follow. What is held is no Option by that: `last_step` of specs/
-// tells of it also where no call follows.
+// tells of it also where no call follows. It is no one type with the Left of `turns`: neither crate knows the other, and a text too long for its
+// buffer does not occur there and is counted as none here (`Taken`, `Writes`).
 #[derive(Clone, Copy)]
 pub struct Left {
     pub count: usize,

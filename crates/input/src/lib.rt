@@ -17,7 +17,8 @@ pub enum Head {
     Whole,
 }
 
-// What follows: no more runs, one that is cut, or one that is whole. It is no Option of a Result: the three stand beside each other in one match.
+// What follows: no more runs, one that is cut, or one that is whole. It is no Option or Result: none of the three carries a value, `turns::turn` hands
+// none on with `?` and gives each its own text, and `run_found` of specs/ names them in one list.
 #[derive(Clone, Copy)]
 pub enum Run {
     End,
@@ -25,7 +26,8 @@ pub enum Run {
     Whole,
 }
 
-// A call of the driving program: none is left, one that is cut, one that is none, or one of the eight.
+// A call of the driving program: none is left, one that is cut, one that is none, or one of the eight. It is no Result: none of them carries a value,
+// `driving::step` hands none on with `?` and does each by itself, and `after_call` of driving's specs/ tells of them in one list.
 #[derive(Clone, Copy)]
 pub enum Call {
     End,

@@ -11,7 +11,8 @@ use stream::{Input, Output, Texts, Window};
 // The most octets of a book that is taken: more than a book of every SPA with every seven-bit SPQ has.
 const MOST: usize = 1500000;
 
-// A book that is lent: the first so many octets of a space.
+// A book that is lent: the first so many octets of a space. It is no Vec, since the project's rule is fixed memory and no heap. The Book of
+// the program `book` is another type: it grows behind what it has, this one is laid anew, and neither program knows the other (crates.txt).
 #[derive(Drop)]
 struct Shelf<'a> {
     space: &'a mut [u8],
@@ -57,7 +58,7 @@ impl Stop {
     }
 }
 
-// A book's length, big-endian, behind the letter.
+// A book's length, big-endian, behind the letter. The crate `input` reads one alike, but by crates.txt this program does not know it.
 fn length_in(read: &[u8]) -> usize {
     u32::from_high_first([
         0,
@@ -166,56 +167,66 @@ fn name_line(chosen: &[u8], italian: &[u8], code: Code) -> Line {
 
 // ---- what is done ----
 
+// The books that the calls have lent.
+#[derive(Drop)]
+struct Books<'a> {
+    chosen: Shelf<'a>,
+    italian: Shelf<'a>,
+}
+
+impl<'a> Books<'a> {
+    // A call is done. Answers its line.
+    fn answer(&mut self, read: &[u8]) -> Result<Line, Stop> {
+        match call_in(read)? {
+            Call::Chosen(book) => {
+                self.chosen.lay(book);
+                Ok(check_line(book))
+            }
+            Call::Italian(book) => {
+                self.italian.lay(book);
+                Ok(check_line(book))
+            }
+            Call::Name(code) => Ok(name_line(self.chosen.book(), self.italian.book(), code)),
+        }
+    }
+}
+
 // A call is done, and its line waits; or what ends the calls is told, and what waits is written.
-fn done(to: &mut Output<'_>, chosen: &mut Shelf<'_>, italian: &mut Shelf<'_>, read: &[u8]) {
-    let line = match call_in(read) {
-        Ok(Call::Chosen(book)) => {
-            chosen.lay(book);
-            check_line(book)
-        }
-        Ok(Call::Italian(book)) => {
-            italian.lay(book);
-            check_line(book)
-        }
-        Ok(Call::Name(code)) => name_line(chosen.book(), italian.book(), code),
-        Err(stop) => {
-            to.tell(stop.text(), false);
-            return;
-        }
-    };
-    to.tell(line.as_str().as_bytes(), true);
+fn done(to: &mut Output<'_>, books: &mut Books<'_>, read: &[u8]) {
+    match books.answer(read) {
+        Ok(line) => to.tell(line.as_str().as_bytes(), true),
+        Err(stop) => to.tell(stop.text(), false),
+    }
+}
+
+// The look-up face: what is read, what is written, and the books.
+#[derive(Drop)]
+struct Face<'a> {
+    from: Input<'a>,
+    to: Output<'a>,
+    books: Books<'a>,
 }
 
 // The next call of the input. What waits is written where it is still to be read.
-fn turn(
-    from: &mut Input<'_>,
-    to: &mut Output<'_>,
-    chosen: &mut Shelf<'_>,
-    italian: &mut Shelf<'_>,
-) {
-    let read = from.seen();
+fn turn(face: &mut Face<'_>) {
+    let read = face.from.seen();
     if read.len() < call_size(read) {
-        to.out();
+        face.to.out();
     }
-    from.read(call_size);
-    let read = from.seen();
+    face.from.read(call_size);
+    let read = face.from.seen();
     let size = call_size(read);
-    done(to, chosen, italian, octets::part(read, 0, size));
-    from.take(size);
+    done(&mut face.to, &mut face.books, octets::part(read, 0, size));
+    face.from.take(size);
 }
 
 // Calls until the input ends. A loop must end, so it has a budget that no input uses up.
-fn calls(
-    from: &mut Input<'_>,
-    to: &mut Output<'_>,
-    chosen: &mut Shelf<'_>,
-    italian: &mut Shelf<'_>,
-) {
+fn calls(face: &mut Face<'_>) {
     for _ in 0..u64::MAX {
-        if !to.texts.going {
+        if !face.to.texts.going {
             return;
         }
-        turn(from, to, chosen, italian);
+        turn(face);
     }
 }
 
@@ -224,24 +235,26 @@ fn main(rt: HostRuntime) {
     let mut chosen = [0u8; 1500000];
     let mut italian = [0u8; 1500000];
     let mut block = [0u8; 4096];
-    calls(
-        &mut Input {
+    calls(&mut Face {
+        from: Input {
             from: rt.stdin(),
             space: &mut space,
             window: Window::default(),
         },
-        &mut Output {
+        to: Output {
             to: rt.stdout(),
             block: &mut block,
             texts: Texts::NONE,
         },
-        &mut Shelf {
-            space: &mut chosen,
-            count: 0,
+        books: Books {
+            chosen: Shelf {
+                space: &mut chosen,
+                count: 0,
+            },
+            italian: Shelf {
+                space: &mut italian,
+                count: 0,
+            },
         },
-        &mut Shelf {
-            space: &mut italian,
-            count: 0,
-        },
-    );
+    });
 }

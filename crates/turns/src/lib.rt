@@ -12,7 +12,8 @@ use frame::Judged;
 use input::{Head, Run};
 
 // What a turn leaves: how many octets its text has, the card after it, whether a run may follow. The card is no Option by that: `last_turn` of specs/
-// tells of it also where no run follows.
+// tells of it also where no run follows. It is no one type with the Left of `driving`: neither crate knows the other, and a text too long for its
+// buffer is counted as none there and does not occur here (`Writes`, `Taken`).
 #[derive(Clone, Copy)]
 pub struct Left {
     pub count: usize,
