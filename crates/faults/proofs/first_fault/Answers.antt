@@ -12,14 +12,6 @@ use Rattle.faults.proofs.first_fault.Goals as goal
 pub loop-rule-init : goal.loop-rule-init
 loop-rule-init c = begins _
 
-pub rule_there-requires : goal.rule_there-requires
-rule_there-requires c = told c.is_whole.ensures c.loop-rule-test.true
-
-pub further-walk-requires : goal.further-walk-requires
-further-walk-requires c =
-    let s = c.loop-rule.invariant.stage in
-    record { whole_there = told c.is_whole.ensures c.loop-rule-test.true; fits = s.small; few_points = omega (arith, s.points_counted, s.fine.few) }
-
 pub loop-rule-smaller : goal.loop-rule-smaller
 unfolding further
 loop-rule-smaller c =
@@ -33,17 +25,11 @@ loop-rule-preserved c =
     (stands_further _ _ _ i.stage (told c.is_whole.ensures c.loop-rule-test.true) i.decides
     (sym (c.rule_there.ensures i.before i.stage) ∙ c.in_default.is))
 
-pub fault-requires : goal.fault-requires
-fault-requires c = c.loop-rule.invariant.stage.small
-
 pub returns-in-Some : goal.returns-in-Some
 returns-in-Some c =
     let i = c.loop-rule.invariant in
     rw c.fault.ensures
     (found_there _ _ _ i.stage (told c.is_whole.ensures c.loop-rule-test.true) i.decides _ (sym c.in-Some.is ∙ c.rule_there.ensures i.before i.stage))
-
-pub at_end-requires : goal.at_end-requires
-at_end-requires c = c.loop-rule.invariant.stage.small
 
 pub returns : goal.returns
 returns c =

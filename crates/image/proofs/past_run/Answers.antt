@@ -4,12 +4,8 @@ use Rattle.std.proofs.Common.{◌≡◌, sym, ◌∙◌, arith}
 use borrow.Author.Rules.{rules}
 use mir.Syntax.{w64}
 use mir.Val.{to_z, of_z}
-use Rattle.label.proofs.Label.{back}
-use Rattle.image.proofs.Runs.{run_begins, run_behind, run_room, run_advances, run_stops}
+use Rattle.image.proofs.Runs.{run_behind, run_room, run_advances, run_stops}
 use Rattle.image.proofs.past_run.Goals as goal
-
-pub loop-key-init : goal.loop-key-init
-loop-key-init g c = run_begins c.requires.0 c.requires.1 (back _ c.instant-minute.type_inv ∙ c.instant-minute.ensures)
 
 pub moment_behind-requires : goal.moment_behind-requires
 moment_behind-requires g c = run_behind g.met.S.Series.runs c.loop-key.invariant _ (sym c.in-Some.is ∙ c.key_at.ensures)
@@ -33,6 +29,3 @@ loop-key-preserved g c =
     rw n
     (run_advances g.met.S.Series.runs c.loop-key.invariant _ (sym c.in-Some.is ∙ c.key_at.ensures) _ _ (c.OCTETS.ensures ∙ g.met.S.Series.takes)
     (sym c.in_ok-minute.was ∙ c.moment_behind.ensures))
-
-pub returns : goal.returns
-returns g c = c.loop-key.invariant.onward
