@@ -88,10 +88,10 @@ fn identity_from(request: Kept, found: Option<Identity>) -> Next
 fn dates_from(request: Kept, found: Option<Dates>) -> Next
     ensures { result ≡ dates_from request found }
 {
-    match found {
-        Some(dates) => lastly(data::dates(asked(request).header.point, dates)),
-        None => mirror_with(request, false, 14),
-    }
+    let Some(dates) = found else {
+        return mirror_with(request, false, 14);
+    };
+    lastly(data::dates(asked(request).header.point, dates))
 }
 
 #[tactic(auto, unfolding(crate::specs::NextReply::clock_from))]
@@ -128,12 +128,11 @@ fn after_data(request: Kept, clock: [u8; 7], before: usize, some: Portion) -> Ne
     ensures { result ≡ after_data request clock before some }
 {
     if some.many == 0 {
-        mirror_with(request, false, 10)
-    } else {
-        Next {
-            message: Some(some.message),
-            pending: data(request, clock, before + some.many),
-        }
+        return mirror_with(request, false, 10);
+    }
+    Next {
+        message: Some(some.message),
+        pending: data(request, clock, before + some.many),
     }
 }
 

@@ -8,6 +8,6 @@ pub returns-then-some-eq0 : goal.returns-then-some-eq0
 unfolding after_data firstly
 returns-then-some-eq0 c = rw (eq-eqb _ 0 c.if-some-eq0.true) c.mirror_with.ensures
 
-pub returns-else-some-eq0 : goal.returns-else-some-eq0
+pub returns : goal.returns
 unfolding after_data firstly
-returns-else-some-eq0 c = rw (ne_eqb _ 0 c.if-some-eq0.false, c.«data».ensures)
+returns c = rw (ne_eqb _ 0 c.if-some-eq0.false, c.«data».ensures)

@@ -2,5 +2,5 @@
 -- By whether there are any. Assumes nothing.
 use Rattle.waiting.proofs.dates_from.Goals as goal
 
-pub returns-in-None : goal.returns-in-None
-returns-in-None c = rw c.in-None.is c.mirror_with.ensures
+pub returns-in_default : goal.returns-in_default
+returns-in_default c = rw c.in_default.is c.mirror_with.ensures
