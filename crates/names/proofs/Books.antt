@@ -168,14 +168,14 @@ module _ (s : List ℕ) (fault : Fault) (k : ℕ) (l : Faulty 1 (code 0 0) (entr
   code_before (e ∷ es) h = let less : length (e ∷ es) - 1 ≡ length es = omega arith in rw less (last_code_law (code 0 0) e es)
 
   deserves : {n : Fault} → Verdict k (last_code (code 0 0) front) own (Some n) → Deserves n front own
-  deserves (cut h) = inl (refl, h)
-  deserves (unnamed h m) = inr (inl (refl, omega (arith, no_longer s (k - 1)), m))
+  deserves (cut h) = inl (refl, h, refl)
+  deserves (unnamed h m) = inr (inl (refl, omega (arith, no_longer s (k - 1)), m, refl))
   deserves (unordered h some most o) =
       let wrong = out_of_order k (last_code (code 0 0) front) (code_of own) o in
       let behind : 1 ≤ length front = omega (arith, front_length, l.from, wrong.0) in
       inr
       (inr
-      (refl, record { whole = omega (arith, no_longer s (k - 1)); some = some; most = most }, behind, λ r. wrong.1 (rw (code_before front behind) r)))
+      (refl, record { whole = omega (arith, no_longer s (k - 1)); some = some; most = most }, behind, λ r. wrong.1 (rw (code_before front behind) r), refl))
 
 named : (book : List ℕ) (fault : Fault) (k : ℕ) → get_or book 0 0 ≡ 1 → checked book ≡ Refused fault k → FirstFaulty book fault k
 unfolding checked entries_of
@@ -190,7 +190,7 @@ named book fault k e q =
 
 pub fault_named : FaultNamed checked
 unfolding checked
-fault_named = record { version = λ book n. rw (ne_eqb (get_or book 0 0) 1 n); entry = named }
+fault_named = record { version = λ book n. rw (ne_eqb (get_or book 0 0) 1 n); refusal_1 = refl; entry = named }
 
 -- ---- no other check ----
 

@@ -6,7 +6,7 @@ use Rattle.names.specs.declared.Code.{Code}
 use Rattle.names.specs.declared.Fault.{Fault}
 use Rattle.names.specs.declared.Fault.TheVariants as faults
 use Rattle.names.specs.declared.Which.TheVariants as which
-use Rattle.names.specs.Book.{code_of, length_of, name_of, entries_of, Checked, checked}
+use Rattle.names.specs.Book.{code_of, length_of, name_of, entries_of, number_of, Checked, checked}
 use Rattle.names.specs.Book as checks
 use Rattle.names.specs.LookUp.{LookedUp, Shown, Refused, Chosen, Italian, Nothing, shown_of, looked_up, name_shown, cut_out}
 use Rattle.names.specs.LookUp as looks
@@ -53,9 +53,9 @@ pub record SoundOnly (check : Check) : Type 0 where
 -- "names its first faulty entry by number from 1": the entries before it are in order, and of refusals 2, 3 and 4 it deserves the first
 abbrev pub Deserves : Fault → List (List ℕ) → List ℕ → Type 0
 Deserves fault before e =
-    ((fault ≡ faults.Cut) × (length e < 3 + length_of e))
-    ⊎ ((fault ≡ faults.Name) × (length e ≡ 3 + length_of e) × ((length_of e ≡ 0) ⊎ (40 < length_of e)))
-    ⊎ ((fault ≡ faults.Order) × Right e × (1 ≤ length before) × (Rises (code_at before (length before - 1)) (code_of e) → ⊥))
+    ((fault ≡ faults.Cut) × (length e < 3 + length_of e) × (number_of fault ≡ 2))
+    ⊎ ((fault ≡ faults.Name) × (length e ≡ 3 + length_of e) × ((length_of e ≡ 0) ⊎ (40 < length_of e)) × (number_of fault ≡ 3))
+    ⊎ ((fault ≡ faults.Order) × Right e × (1 ≤ length before) × (Rises (code_at before (length before - 1)) (code_of e) → ⊥) × (number_of fault ≡ 4))
 
 pub record FirstFaulty (book : List ℕ) (fault : Fault) (entry : ℕ) : Type 0 where
   pub from_1 : 1 ≤ entry
@@ -66,6 +66,7 @@ pub record FirstFaulty (book : List ℕ) (fault : Fault) (entry : ℕ) : Type 0 
 -- "0 for refusal 1": an empty book or another version
 pub record FaultNamed (check : Check) : Type 0 where
   pub version : (book : List ℕ) → (get_or book 0 0 ≡ 1 → ⊥) → check book ≡ checks.Refused faults.Version 0
+  pub refusal_1 : number_of faults.Version ≡ 1
   pub entry : (book : List ℕ) (fault : Fault) (entry : ℕ) → get_or book 0 0 ≡ 1 → check book ≡ checks.Refused fault entry → FirstFaulty book fault entry
 
 -- together these leave one check: whatever meets them says what ours says, of any octets
