@@ -10,28 +10,28 @@ CLAUSE = re.compile(r"\b(requires|ensures|decreases)\*?(?: \w+)? \{")
 IMPL = re.compile(r"impl(?:<[^>]*>)? (\w+)(?:<([^>]*)>)? for (\w+)(?:<[^>]*>)? \{")
 
 
-def public_traits(lines):
-    """The public traits of these lines; where errors are made of others, which `?` does, `From` too."""
-    own = {found.group(1) for line in lines if (found := re.match(r"pub trait (\w+)", line))}
-    return own | {"From"} if any("ghost from_gives" in line for line in lines) else own
+def is_public(lines, trait, of):
+    """Whether an impl of a trait for a type hands its methods out: of a public trait of these lines, of `From` where errors are made of others, which `?` does, and of
+    `Iterator` for a public type."""
+    if trait == "Iterator":
+        return any(re.match(rf"pub struct {of}\b", line) for line in lines)
+    return any(re.match(rf"pub trait {trait}\b", line) for line in lines) or trait == "From" and any("ghost from_gives" in line for line in lines)
 
 
 def impls(lines):
-    """(type, the name under which its proofs stand) of each impl of a public trait: `u16` and `U16Number2`."""
-    traits = public_traits(lines)
+    """(type, the name under which its proofs stand) of each impl that hands its methods out: `u16` and `U16Number2`."""
     for line in lines:
-        if (found := IMPL.match(line)) and found.group(1) in traits:
+        if (found := IMPL.match(line)) and is_public(lines, found.group(1), found.group(3)):
             trait, parameters, of = found.groups()
             yield of, of[0].upper() + of[1:] + trait + re.sub(r"\W", "", parameters or "")
 
 
 def functions(lines):
-    """(name, line number from 0, whether it is public) of each function; a method is `Type::name`, and one of a public trait is public."""
-    traits = public_traits(lines)
+    """(name, line number from 0, whether it is public) of each function; a method is `Type::name`, and one of an impl that hands its methods out is public."""
     owner, public = "", False
     for at, line in enumerate(lines):
         if found := IMPL.match(line):
-            owner, public = found.group(3) + "::", found.group(1) in traits
+            owner, public = found.group(3) + "::", is_public(lines, found.group(1), found.group(3))
         elif found := re.match(r"impl(?:<.*?>)? (\w+)(?:<.*>)? \{", line):
             owner = found.group(1) + "::"
         elif line == "}":

@@ -55,13 +55,18 @@ fn judge_entry(line: &[u8]) -> Result<Entry, Fault> {
     }
 }
 
+// ASCII is asked first, since most lines are short and have nothing else.
+fn is_utf8(line: &[u8]) -> bool {
+    line.is_ascii() || std::str::from_utf8(line).is_ok()
+}
+
 // The entry of a line, if it is no comment and not blank.
 pub(crate) fn judge(line: &[u8]) -> Result<Option<Entry>, Fault> {
-    if std::str::from_utf8(line).is_err() {
-        return Err(Fault::NotUtf8);
-    }
     match lines::from_word(line) {
-        [] | [b'#', ..] => Ok(None),
+        // a blank line is UTF-8, and a text may have many
+        [] => Ok(None),
+        _ if !is_utf8(line) => Err(Fault::NotUtf8),
+        [b'#', ..] => Ok(None),
         _ => judge_entry(line).map(Some),
     }
 }

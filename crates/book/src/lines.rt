@@ -29,7 +29,7 @@ pub(crate) fn first_word(text: &[u8]) -> (&[u8], &[u8]) {
 }
 
 // A line without the octet that some systems put before a newline.
-fn without_return(line: &[u8]) -> &[u8] {
+pub(crate) fn without_return(line: &[u8]) -> &[u8] {
     line.strip_suffix(b"\r").unwrap_or(line)
 }
 

@@ -7,8 +7,9 @@ mod telling;
 mod words;
 
 use making::Places;
-use std::io::{Stderr, Stdin, Stdout, Write};
-use stream::Window;
+use std::fmt::Write;
+use std::io::{Stderr, Stdin, Stdout};
+use stream::{Pieces, Window};
 use words::Complaint;
 
 fn turn_over(
@@ -30,7 +31,7 @@ fn turn_over(
 fn turn_over_all(
     from: Stdin,
     output: Stdout,
-    mut error: Stderr,
+    error: Stderr,
     space: &mut [u8; 4000001],
     places: &mut Places,
     book: &mut [u8; 2818049],
@@ -38,7 +39,7 @@ fn turn_over_all(
     let most = space.len();
     let window = Window::default().filled(from, space, most);
     if let Err(complaint) = turn_over(output, window.seen(space), places, book) {
-        let _ = writeln!(error, "{complaint}");
+        let _ = Pieces(error).writeln(complaint);
     }
 }
 

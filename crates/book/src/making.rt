@@ -3,7 +3,6 @@ use crate::entries::{Entry, Fault};
 use crate::words::Complaint;
 use crate::{entries, lines};
 use names::Code;
-use std::iter;
 
 // Where each code's name begins in the text; 0 where no line has one. No name begins at 0: its code stands before it. An Option for each would
 // take twice the room, and with the text and the book the stack has no more.
@@ -26,16 +25,15 @@ fn keep(text: &[u8], from: usize, entry: Entry, places: &mut Places) -> Result<(
 }
 
 // The names of all lines are kept: the first line begins with the text, and the others behind each newline. What is wrong with a line is said at
-// once: no line behind it is looked at.
+// once: no line behind it is looked at. Where a line begins is counted on, so that no octet is looked at twice for its end.
 fn keep_lines(text: &[u8], places: &mut Places) -> Result<(), Complaint> {
-    let ends = text.iter().enumerate().filter(|(_, c)| **c == b'\n');
-    let starts = iter::once(0).chain(ends.map(|(end, _)| end.saturating_add(1)));
-    for (before, from) in starts.enumerate() {
-        let number = before.saturating_add(1);
-        let in_line = |fault| Complaint::Line(number, fault);
-        if let Some(entry) = entries::judge(lines::line_at(text, from)).map_err(in_line)? {
+    let mut from = 0usize;
+    for (before, line) in text.split(|c| *c == b'\n').enumerate() {
+        let in_line = |fault| Complaint::Line(before.saturating_add(1), fault);
+        if let Some(entry) = entries::judge(lines::without_return(line)).map_err(in_line)? {
             keep(text, from, entry, places).map_err(in_line)?;
         }
+        from = from.wrapping_add(line.len()).wrapping_add(1);
     }
     Ok(())
 }

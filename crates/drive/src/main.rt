@@ -2,10 +2,29 @@
 
 // The driving program: calls of a card from standard input, a line for each gap. second/README.md, "The driving face". It only reads
 // (`stream`), steps (`driving`) and writes (`stream`), each line at once.
+ghost use Rattle.std.specs.Prelude.{◌≡◌};
+ghost use Rattle.input.specs.Input.{call_size};
+
 use driving::Held;
 use profile::Profile;
 use std::io::Stdout;
-use stream::{Input, Texts, Window};
+use stream::{Input, Sizes, Texts, Window};
+
+// A call under a profile: its letter, its length, all of it.
+#[derive(Clone, Copy)]
+struct CallSize(Profile);
+
+impl Sizes for CallSize {
+    const TURNS: u8 = 3;
+
+    ghost TURNS = { 3 };
+
+    ghost says = { λ sizes read size. size ≡ call_size sizes.0 read };
+
+    fn size(&self, read: &[u8]) -> usize {
+        input::call_size(self.0, read)
+    }
+}
 
 // The image that is lent: the first so many octets of a space. It is no Vec, since the project's rule is fixed memory and no heap.
 #[derive(Drop)]
@@ -52,7 +71,7 @@ impl<'a> Bench<'a> {
 // The next call of the input: a letter and what follows it. Answers whether another may follow.
 fn turn(from: &mut Input<'_>, output: Stdout, bench: &mut Bench<'_>) -> bool {
     let profile = bench.held.profile;
-    from.read(|read: &[u8]| input::call_size(profile, read));
+    from.read(&CallSize(profile));
     let read = from.seen();
     let size = input::call_size(profile, read);
     let more = bench.done(output, octets::part(read, 0, size));

@@ -14,7 +14,7 @@ use profile::{Character, Profile};
 use rules::{Rule, Session};
 
 // A card of a profile; the image, the clock, and how many octets of a reply buffer, that are lent to it with every gap; and the books.
-#[derive(Drop)]
+#[derive(Clone, Copy)]
 pub struct Bench {
     card: Card,
     pub profile: Profile,
@@ -69,7 +69,7 @@ impl Bench {
     // ---- what is lent ----
 
     fn lend_image(&mut self, voice: Voice, image: &Held) {
-        self.image = *image;
+        self.image.hold(image);
         images::explain(voice, image.octets());
     }
 

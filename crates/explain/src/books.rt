@@ -5,7 +5,7 @@ use crate::words;
 use names::{BookFault, Code, Which as Book};
 
 // The two books, as far as they have been given.
-#[derive(Drop)]
+#[derive(Clone, Copy)]
 pub struct Books {
     chosen: Option<Held>,
     italian: Option<Held>,
@@ -36,9 +36,13 @@ impl Books {
     pub(crate) fn lend(&mut self, voice: Voice, which: Book, book: &Held) {
         words::book(voice, which, book.octets().len());
         checked(voice, names::check(book.octets()));
-        match which {
-            Book::Chosen => self.chosen = Some(*book),
-            Book::Italian => self.italian = Some(*book),
+        let own = match which {
+            Book::Chosen => &mut self.chosen,
+            Book::Italian => &mut self.italian,
+        };
+        match own {
+            Some(held) => held.hold(book),
+            None => *own = Some(*book),
         }
     }
 

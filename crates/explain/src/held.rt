@@ -24,6 +24,18 @@ impl Held {
         &self.octets[..self.many]
     }
 
+    // The octets of another are held in place of its own. Few are put one by one: to copy the whole array takes as long as a thousand of them.
+    pub(crate) fn hold(&mut self, other: &Held) {
+        if other.many < 1024 {
+            self.clear();
+            for octet in other.octets() {
+                self.push(*octet);
+            }
+        } else {
+            *self = *other;
+        }
+    }
+
     pub(crate) fn clear(&mut self) {
         self.many = 0;
     }

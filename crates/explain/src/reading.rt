@@ -27,9 +27,17 @@ impl Reading {
         self.window.seen(&self.space)
     }
 
-    // The window begins with a whole line, or with what is left of the input, or it is full.
+    // The window begins with a whole line, or with what is left of the input, or it is full. Each turn reads once, and the last one nothing: how many
+    // reads a line takes is not known before. The turns are counted as in `pass_line`.
     pub(crate) fn read_line(&mut self) {
-        self.window = self.window.read(self.from, &mut self.space, lines::size);
+        for _ in 0..u64::MAX {
+            let had = self.read().len();
+            let size = lines::size(self.read());
+            self.window = self.window.filled(self.from, &mut self.space, size);
+            if self.read().len() == had {
+                return;
+            }
+        }
     }
 
     // The first line is passed, which is read on where it is too long. Counted turns and no `loop`: a line may go on as long as the input, so no

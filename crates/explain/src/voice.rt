@@ -1,6 +1,7 @@
-// The voice: what writes to standard output. What cannot be written is lost: there is no one to tell.
-use std::fmt::Display;
-use std::io::{Stdout, Write};
+// The voice: what writes to standard output. What cannot be written is lost, and what is behind it is still tried: there is no one to tell.
+use std::fmt::{Display, Write};
+use std::io::Stdout;
+use stream::Pieces;
 
 // A voice says a text with values in it.
 macro_rules! say {
@@ -32,14 +33,12 @@ impl Voice {
     }
 
     pub(crate) fn say(self, words: impl Display + Drop) {
-        let mut output = self.output;
-        let _ = write!(output, "{words}");
+        let _ = Pieces(self.output).write(words);
     }
 
     // Octets as they are, which need not be text.
     pub(crate) fn pass_on(self, octets: &[u8]) {
-        let mut output = self.output;
-        let _ = output.write_all(octets);
+        stream::say(self.output, octets);
     }
 
     // Octets in hex, each behind a blank.

@@ -113,6 +113,7 @@ module _ (κs : Lfts 1) (x : Place) where
   of_image_behind s p = omega (arith, ap (λ (f : Option ImageFault). (place_of f).at) p)
 
   -- a point that is missing where the record of one is cut
-  of_image_cut : (number place : ℕ) → RuledOut (of_image.Post κs) (lent x (head ++ (0 ∷ 7 ∷ 2 ∷ 0 ∷ 1 ∷ [])), tt) (fault NoPoint number place)
+  of_image_cut : (place : Option RecordPlace) → RuledOut (of_image.Post κs) (lent x (head ++ (0 ∷ 7 ∷ 2 ∷ 0 ∷ 1 ∷ [])), tt)
+      (Some (record { rule = NoPoint; place = place }))
   unfolding the_image
-  of_image_cut number place s p = let e : Some NoPoint ≡ Some Cut = ap (option_map (λ (f : ImageFault). f.rule)) p in never (cc)
+  of_image_cut place s p = let e : Some NoPoint ≡ Some Cut = ap (option_map (λ (f : ImageFault). f.rule)) p in never (cc)

@@ -213,7 +213,7 @@ impl Series for Events {
     }
 
     fn moment(label: LabelB) -> Option<i64> {
-        label.moment()
+        label.moment().ok()
     }
 
     // Events may be equal: in one minute the milliseconds decide. No pairs are compared, so that in another minute they are not worked out.
@@ -301,7 +301,8 @@ fn is_orderly(image: &[u8]) -> bool
         at: 1,
         last: before_all(),
     };
-    while records::is_whole(image, walk.at) {
+    let mut next = records::after(image, walk.at);
+    while walk.at < next {
         let here = Standing {
             image,
             at: walk.at,
@@ -311,13 +312,14 @@ fn is_orderly(image: &[u8]) -> bool
             return false;
         }
         let behind = Walk {
-            at: records::after(image, walk.at),
+            at: next,
             last: here.key,
         };
-        let Some(next) = past_any_run(image, behind) else {
+        let Some(on) = past_any_run(image, behind) else {
             return false;
         };
-        walk = next;
+        walk = on;
+        next = records::after(image, walk.at);
     }
     walk.at == image.len()
 }

@@ -26,14 +26,15 @@ use Rattle.octets.proofs.Lists.{part_at}
 use Rattle.label.specs.declared.DateTime.{DateTime}
 use Rattle.label.specs.declared.LabelA.{LabelA}
 use Rattle.label.specs.declared.LabelB.{LabelB}
-use Rattle.std.specs.Prelude.{Option, Some, None, MatchOption, unwrap_or, cond}
+use Rattle.std.specs.Prelude.{Option, Some, None, MatchOption, unwrap_or, Result, Ok, Err, cond}
+use Rattle.std.specs.Result.{result_ok}
 use Rattle.std.specs.Ordering.{is_lt, is_some_and, partial_ordering_then, int_cmp, nat_cmp}
 use Rattle.std.specs.declared.cmp.Ordering.TheVariants.{Less, Equal, Greater}
 use Rattle.label.specs.Calendar.{leap, month_length}
 use Rattle.label.specs.Time.{real, minutes}
 use Rattle.label.specs.Label.{label_a_at, label_b_at, label_a_octets, label_b_octets, date_time_a, valid_a, su, instant, before_a, second, millisecond, valid_b, in_minute, before_b}
 use Rattle.label.specs.Standard.{as_it_stands, hour_earlier, standard_a}
-use Rattle.label.specs.Calls.{moment_of}
+use Rattle.label.specs.Calls.{moment_of, moment_b}
 use Rattle.label.proofs.Time.{real_facts, real_but_day}
 
 -- a label that a part of octets has whole is the one that stands there
@@ -252,6 +253,24 @@ moment_or_none a = by_test (valid_a a) refl
     by_test : (t : Bool) → valid_a a ≡ t → unwrap_or (when t then Some (instant a) else None) (pos 0) ≡ instant a
     by_test true e = refl
     by_test false e = sym (instant_not a e)
+
+-- the instant of a label b, whether it is valid or not
+pub moment_right : (b : LabelB) (minute : ℤ) → valid_b b ≡ true → minute ≡ instant b.a → ◌≡◌ {A = Result ℤ ℤ} (Ok minute) (moment_b b)
+unfolding moment_b
+moment_right b minute v e = rw (e, v)
+
+pub moment_wrong : (b : LabelB) (minute : ℤ) → valid_b b ≡ false → minute ≡ instant b.a → ◌≡◌ {A = Result ℤ ℤ} (Err minute) (moment_b b)
+unfolding moment_b
+moment_wrong b minute v e = rw (e, v)
+
+-- and of a valid one alone
+pub moment_valid : (b : LabelB) → result_ok (moment_b b) ≡ moment_of (valid_b b) b.a
+unfolding moment_b moment_of
+moment_valid b = by_test (valid_b b)
+  where
+    by_test : (v : Bool) → result_ok (when v then Ok (instant b.a) else Err (instant b.a)) ≡ (when v then Some (instant b.a) else None)
+    by_test true = refl
+    by_test false = refl
 
 -- and what either says of the label
 pub moment_facts : (a : LabelA) (v : Bool) (m : Option ℤ) → m ≡ moment_of v a → MatchOption m (v ≡ false) (λ minute. (v ≡ true) × (minute ≡ instant a))

@@ -19,14 +19,14 @@ use Rattle.octets.proofs.Outcome.{RuledOut, Place, lent, never}
 use Rattle.label.specs.declared.DateTime.{DateTime}
 use Rattle.label.specs.declared.LabelA.{LabelA}
 use Rattle.label.specs.declared.LabelB.{LabelB}
-use Rattle.std.specs.Prelude.{Some, None}
+use Rattle.std.specs.Prelude.{Some, None, Result, Ok, Err}
 use Rattle.std.proofs.lemmas.Option.{same_Some}
 use Rattle.label.specs.declared.StandardTime.{StandardTime}
 use Rattle.label.specs.Calendar.{leap, leap_day, month_length, days_of_months, days_to_year, day_number}
 use Rattle.label.specs.Time.{real, minutes}
 use Rattle.label.specs.Label.{label_a_at, label_b_at, label_a_octets, label_b_octets, date_time_a, valid_a, su, instant, before_a, millisecond, second, valid_b, in_minute, before_b}
 use Rattle.label.specs.Standard.{standard_at, as_it_stands, hour_earlier, standard_a}
-use Rattle.label.specs.Calls.{moment_of}
+use Rattle.label.specs.Calls.{moment_of, moment_b}
 use Rattle.label.proofs.Label.{instant_standard, instant_summer}
 use Rattle.label.proofs.Instant.{less_back, a_at_once, a_not_after, b_not_itself}
 use Rattle.label.proofs.Order.{hour_gone}
@@ -46,6 +46,11 @@ use Rattle.label.proofs.LabelB.is_valid.Reads as b_is_valid
 use Rattle.label.proofs.LabelB.in_minute.Reads as b_in_minute
 use Rattle.label.proofs.LabelB.is_before.Reads as b_is_before
 use Rattle.label.proofs.LabelB.moment.Reads as b_moment
+
+-- the instant that is told of a label b
+abbrev told_instant : Result ℤ ℤ → ℤ
+told_instant (Ok minute) = minute
+told_instant (Err minute) = minute
 
 -- to unfold one of these is to unfold what a valid label and an instant stand on
 the_label : Unit {0}
@@ -331,14 +336,19 @@ module _ (κs : Lfts 0) where
     b_is_valid_last valid s p = never (cc)
 
     -- a moment of a label with second 60, whatever the minute
-    b_moment_second : (i : ℤ) → RuledOut (b_moment.Post κs) (label_b 0 0xF0 a, tt) (Some i)
-    unfolding moment_of valid_b holds second low_first
+    b_moment_second : (i : ℤ) → RuledOut (b_moment.Post κs) (label_b 0 0xF0 a, tt) (Ok i)
+    unfolding moment_b valid_b holds second low_first
     b_moment_second i s p = cc
 
     -- a moment of a label with 1000 milliseconds, whatever the minute
-    b_moment_millisecond : (i : ℤ) → RuledOut (b_moment.Post κs) (label_b 0xE8 3 a, tt) (Some i)
-    unfolding moment_of valid_b holds second millisecond low_first
+    b_moment_millisecond : (i : ℤ) → RuledOut (b_moment.Post κs) (label_b 0xE8 3 a, tt) (Ok i)
+    unfolding moment_b valid_b holds second millisecond low_first
     b_moment_millisecond i s p = cc
+
+    -- another instant than that of its label a, of a label with second 60
+    b_moment_other : (i : ℤ) → (i ≡ instant a → ⊥) → RuledOut (b_moment.Post κs) (label_b 0 0xF0 a, tt) (Err i)
+    unfolding moment_b valid_b holds second low_first
+    b_moment_other i other s p = other (ap told_instant p)
 
   -- a second of 100 milliseconds, of every label with a second
   b_in_minute_hundred : (l : LabelB) → (second l ≡ 0 → ⊥) → RuledOut (b_in_minute.Post κs) (l, tt) (second l * 100 + millisecond l)

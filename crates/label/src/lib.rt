@@ -4,7 +4,7 @@ ghost use Rattle.std.specs.Prelude.{◌≡◌, true, eqb};
 ghost use Rattle.label.specs.Time.{real, minutes};
 ghost use Rattle.label.specs.Label.{label_a_at, label_b_at, label_a_octets, label_b_octets, date_time_a, valid_a, su, instant, before_a, second, millisecond, valid_b, in_minute, before_b};
 ghost use Rattle.label.specs.Standard.{as_it_stands, hour_earlier, standard_a};
-ghost use Rattle.label.specs.Calls.{moment_of};
+ghost use Rattle.label.specs.Calls.{moment_of, moment_b};
 
 mod month;
 
@@ -269,15 +269,15 @@ impl LabelB {
         self.second() <= 59 && self.millisecond() <= 999 && self.a.is_valid()
     }
 
-    // Its instant, which is that of its label a, where it is valid.
+    // Its instant, which is that of its label a: as an answer where it is valid, and where it is not, as an error.
     #[inline(always)]
-    pub fn moment(self) -> Option<i64>
-        ensures { result ≡ moment_of (valid_b self) self.a }
+    pub fn moment(self) -> Result<i64, i64>
+        ensures { result ≡ moment_b self }
     {
         if self.is_valid() {
-            Some(self.a.standard_minute())
+            Ok(self.a.standard_minute())
         } else {
-            None
+            Err(self.a.instant())
         }
     }
 

@@ -6,7 +6,7 @@ use names::{Code, Found, Refusal};
 use octets::Number;
 use std::fmt;
 use std::fmt::InlineText;
-use stream::{Input, Output, Texts, Window};
+use stream::{Input, Output, Sizes, Texts, Window};
 
 // The most octets of a book that is taken: more than a book of every SPA with every seven-bit SPQ has.
 const MOST: usize = 1500000;
@@ -87,6 +87,21 @@ fn call_size(read: &[u8]) -> usize {
     }
 }
 
+// A call: its letter, its length, all of it. Nothing is promised of what it says, as of all that this program decides.
+struct CallSize;
+
+impl Sizes for CallSize {
+    const TURNS: u8 = 3;
+
+    ghost TURNS = { 3 };
+
+    ghost says = { λ sizes read size. Unit {0} };
+
+    fn size(&self, read: &[u8]) -> usize {
+        call_size(read)
+    }
+}
+
 fn book_in(read: &[u8]) -> Result<&[u8], Stop> {
     if MOST < length_in(read) {
         Err(Stop::Wrong)
@@ -118,9 +133,6 @@ fn call_in(read: &[u8]) -> Result<Call<'_>, Stop> {
 
 // ---- lines ----
 
-// No line is longer: three numbers, and a name of 40 octets in hex.
-type Line = InlineText<252>;
-
 // Octets in hex.
 #[derive(Clone, Copy)]
 struct Pairs<'a>(&'a [u8]);
@@ -134,34 +146,75 @@ impl fmt::Display for Pairs<'_> {
     }
 }
 
-fn check_line(book: &[u8]) -> Line {
-    let (number, entry) = match names::check(book) {
-        Ok(()) => (0, 0),
-        Err(why) => (why.fault.number(), why.entry),
-    };
-    Line::of(format_args!("{number} {entry}\n"))
+// A line in the making: the first so many octets of an array. None is longer: three numbers, and a name of 40 octets in hex. It is lent and not handed
+// on by value, and its numbers are laid by themselves: a call with a small book takes little longer than its line.
+#[derive(Drop)]
+struct Line {
+    octets: [u8; 128],
+    count: usize,
 }
 
-fn found_line(found: Found, name: &[u8]) -> Line {
-    let book = found.book as u8;
-    let entry = found.entry;
-    let name = Pairs(name);
-    Line::of(format_args!("0 {book} {entry} {name}\n"))
-}
+impl Line {
+    fn new() -> Line {
+        Line {
+            octets: [0; 128],
+            count: 0,
+        }
+    }
 
-fn refusal_line(refusal: Refusal) -> Line {
-    let number = refusal.why.fault.number();
-    let book = refusal.book as u8;
-    let entry = refusal.why.entry;
-    Line::of(format_args!("{number} {book} {entry} -\n"))
-}
+    fn octets(&self) -> &[u8] {
+        octets::part(&self.octets, 0, self.count)
+    }
 
-fn name_line(chosen: &[u8], italian: &[u8], code: Code) -> Line {
-    let looked_up = names::look_up(chosen, italian, code);
-    match looked_up {
-        Ok(Some(found)) => found_line(found, names::name_at(chosen, italian, looked_up)),
-        Ok(None) => Line::of("0 0 0 -\n"),
-        Err(refusal) => refusal_line(refusal),
+    fn put(&mut self, part: &[u8]) {
+        if octets::put(&mut self.octets, self.count, part) {
+            self.count = self.count.saturating_add(part.len());
+        }
+    }
+
+    fn put_number(&mut self, n: usize) {
+        self.put(itoa::Buffer::new().format(n).as_bytes());
+    }
+
+    // Numbers, a space behind each but the last.
+    fn put_numbers(&mut self, first: usize, second: usize) {
+        self.put_number(first);
+        self.put(b" ");
+        self.put_number(second);
+    }
+
+    fn check(&mut self, book: &[u8]) {
+        match names::check(book) {
+            Ok(()) => self.put(b"0 0\n"),
+            Err(why) => {
+                self.put_numbers(usize::from(why.fault.number()), why.entry);
+                self.put(b"\n");
+            }
+        }
+    }
+
+    fn found(&mut self, found: Found, name: &[u8]) {
+        self.put(b"0 ");
+        self.put_numbers(usize::from(found.book.number()), found.entry);
+        self.put(b" ");
+        self.put(InlineText::<80>::of(Pairs(name)).as_str().as_bytes());
+        self.put(b"\n");
+    }
+
+    fn refusal(&mut self, refusal: Refusal) {
+        self.put_number(usize::from(refusal.why.fault.number()));
+        self.put(b" ");
+        self.put_numbers(usize::from(refusal.book.number()), refusal.why.entry);
+        self.put(b" -\n");
+    }
+
+    fn name(&mut self, chosen: &[u8], italian: &[u8], code: Code) {
+        let looked_up = names::look_up(chosen, italian, code);
+        match looked_up {
+            Ok(Some(found)) => self.found(found, names::name_at(chosen, italian, looked_up)),
+            Ok(None) => self.put(b"0 0 0 -\n"),
+            Err(refusal) => self.refusal(refusal),
+        }
     }
 }
 
@@ -175,26 +228,28 @@ struct Books<'a> {
 }
 
 impl<'a> Books<'a> {
-    // A call is done. Answers its line.
-    fn answer(&mut self, read: &[u8]) -> Result<Line, Stop> {
+    // A call is done, and its line put together.
+    fn answer(&mut self, read: &[u8], line: &mut Line) -> Result<(), Stop> {
         match call_in(read)? {
             Call::Chosen(book) => {
                 self.chosen.lay(book);
-                Ok(check_line(book))
+                line.check(book);
             }
             Call::Italian(book) => {
                 self.italian.lay(book);
-                Ok(check_line(book))
+                line.check(book);
             }
-            Call::Name(code) => Ok(name_line(self.chosen.book(), self.italian.book(), code)),
+            Call::Name(code) => line.name(self.chosen.book(), self.italian.book(), code),
         }
+        Ok(())
     }
 }
 
 // A call is done, and its line waits; or what ends the calls is told, and what waits is written.
 fn done(to: &mut Output<'_>, books: &mut Books<'_>, read: &[u8]) {
-    match books.answer(read) {
-        Ok(line) => to.tell(line.as_str().as_bytes(), true),
+    let mut line = Line::new();
+    match books.answer(read, &mut line) {
+        Ok(()) => to.tell(line.octets(), true),
         Err(stop) => to.tell(stop.text(), false),
     }
 }
@@ -213,7 +268,7 @@ fn turn(face: &mut Face<'_>) {
     if read.len() < call_size(read) {
         face.to.out();
     }
-    face.from.read(call_size);
+    face.from.read(&CallSize);
     let read = face.from.seen();
     let size = call_size(read);
     done(&mut face.to, &mut face.books, octets::part(read, 0, size));

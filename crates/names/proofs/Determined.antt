@@ -4,6 +4,7 @@ use Rattle.octets.proofs.Outcome.{OneResult, OneReading, one_outcome}
 use Rattle.names.specs.working.Pass.{entries_from, judged}
 use Rattle.names.proofs.Code.of_event.Reads as of_event
 use Rattle.names.proofs.Fault.number.Reads as number
+use Rattle.names.proofs.Which.number.Reads as book_number
 use Rattle.names.proofs.check.Reads as check
 use Rattle.names.proofs.look_up.Reads as look_up
 use Rattle.names.proofs.name_at.Reads as name_at
@@ -15,6 +16,9 @@ of_event_one κs a r r' s s' = one_outcome
 
 number_one : OneResult number.Post
 number_one κs a r r' s s' = one_outcome
+
+book_number_one : OneResult book_number.Post
+book_number_one κs a r r' s s' = one_outcome
 
 check_one : OneResult check.Post
 check_one κs a r r' s s' = one_outcome

@@ -51,6 +51,8 @@ pub checked_first : CheckedFirst shown_for
 checked_first = record {
   chosen_first = λ chosen italian fault entry q wanted. chosen_refused wanted chosen italian q;
   italian_then = λ chosen italian fault entry c q wanted. italian_refused wanted chosen italian c q;
+  chosen_number = refl;
+  italian_number = refl;
 }
 
 -- ---- one entry of a code at most ----

@@ -27,6 +27,7 @@ use Rattle.names.proofs.Books.{sound_only, said_sound}
 use Rattle.names.proofs.EventNames.{entry_shown, apart, checked_first, found_exactly}
 use Rattle.names.proofs.Code.of_event.Reads as of_event
 use Rattle.names.proofs.Fault.number.Reads as number
+use Rattle.names.proofs.Which.number.Reads as book_number_call
 use Rattle.names.proofs.check.Reads as check
 use Rattle.names.proofs.look_up.Reads as look_up
 use Rattle.names.proofs.name_at.Reads as name_at
@@ -70,6 +71,14 @@ module _ (κs : Lfts 0) where
   -- the number of another fault
   number_other : (fault other : Fault) → (number_of other ≡ number_of fault → ⊥) → RuledOut (number.Post κs) (fault, tt) (number_of other)
   number_other fault other n s p = n p
+
+  -- the books counted from 0
+  book_number_zero : RuledOut (book_number_call.Post κs) (which.Chosen, tt) 0
+  book_number_zero s p = omega arith
+
+  -- the number of the other book
+  book_number_other : (book other : Which) → (book_number other ≡ book_number book → ⊥) → RuledOut (book_number_call.Post κs) (book, tt) (book_number other)
+  book_number_other book other n s p = n p
 
 module _ (κs : Lfts 1) (x : Place) where
   -- a book said to be sound that is not, whatever it is

@@ -10,6 +10,7 @@ use Rattle.names.specs.Book.{code_of, length_of, name_of, entries_of, number_of,
 use Rattle.names.specs.Book as checks
 use Rattle.names.specs.LookUp.{LookedUp, Shown, Refused, Chosen, Italian, Nothing, shown_of, looked_up, name_shown, cut_out}
 use Rattle.names.specs.LookUp as looks
+use Rattle.names.specs.Answers.{book_number}
 
 -- "entries of SPA, SPQ, name length in one octet and the name, 1 to 40 octets"
 pub record Right (e : List ℕ) : Type 0 where
@@ -89,6 +90,8 @@ pub record CheckedFirst (look : LookUp) : Type 0 where
       → (wanted : Code) → look wanted chosen italian ≡ Refused which.Chosen fault entry
   pub italian_then : (chosen italian : List ℕ) (fault : Fault) (entry : ℕ) → checked chosen ≡ checks.Sound → checked italian ≡ checks.Refused fault entry
       → (wanted : Code) → look wanted chosen italian ≡ Refused which.Italian fault entry
+  pub chosen_number : book_number which.Chosen ≡ 1
+  pub italian_number : book_number which.Italian ≡ 2
 
 -- the entry of a number, from 1, has a code
 abbrev pub Has : List (List ℕ) → Code → ℕ → Type 0

@@ -4,6 +4,7 @@ ghost use Rattle.std.specs.Prelude.{◌≡◌, ◌+◌, ◌≤◌, length};
 ghost use Rattle.std.specs.Iterator.{YieldsFirst, item_count};
 ghost use Rattle.names.specs.Codes.{code, code_of_event};
 ghost use Rattle.names.specs.Book.{number_of, in_order, checked};
+ghost use Rattle.names.specs.Answers.{book_number};
 ghost use Rattle.names.specs.LookUp.{found_in, looked_up, name_shown, cut_from, cut_out};
 ghost use Rattle.names.specs.working.Pass.{entry_at, entry_checked, entries_from, judged, passed};
 
@@ -79,6 +80,18 @@ impl Fault {
         ensures { result ≡ number_of self }
     {
         self as u8
+    }
+}
+
+impl Which {
+    // The book's number.
+    pub fn number(self) -> u8
+        ensures { result ≡ book_number self }
+    {
+        match self {
+            Which::Chosen => 1,
+            Which::Italian => 2,
+        }
     }
 }
 

@@ -2,8 +2,41 @@
 
 // The printing program: reads an input, takes turn after turn of it and writes what each gives. Document 01, "The printing program"; the
 // crate `turns` defines what is printed, and proves each turn.
+ghost use Rattle.std.specs.Prelude.{◌≡◌};
+ghost use Rattle.input.specs.Input.{head_size, run_size};
+
 use card::Card;
-use stream::{Input, Output, Texts, Window};
+use stream::{Input, Output, Sizes, Texts, Window};
+
+// The head: its version, its image's length, all of it.
+struct HeadSize;
+
+impl Sizes for HeadSize {
+    const TURNS: u8 = 3;
+
+    ghost TURNS = { 3 };
+
+    ghost says = { λ sizes read size. size ≡ head_size read };
+
+    fn size(&self, read: &[u8]) -> usize {
+        input::head_size(read)
+    }
+}
+
+// A run: its length, all of it.
+struct RunSize;
+
+impl Sizes for RunSize {
+    const TURNS: u8 = 2;
+
+    ghost TURNS = { 2 };
+
+    ghost says = { λ sizes read size. size ≡ run_size read };
+
+    fn size(&self, read: &[u8]) -> usize {
+        input::run_size(read)
+    }
+}
 
 // What goes on between the input and the output: what is read, what is written, the text of a turn, and the card.
 #[derive(Drop)]
@@ -33,7 +66,7 @@ impl<'a> Talk<'a> {
         if read.len() < input::run_size(read) {
             self.to.out();
         }
-        self.from.read(input::run_size);
+        self.from.read(&RunSize);
     }
 
     // The turn of the next run, and its text: it is lent the image and the clock of the head.
@@ -87,7 +120,7 @@ fn main(rt: HostRuntime) {
         text: [0; 1024],
         card: Card::power_on(),
     };
-    talk.from.read(input::head_size);
+    talk.from.read(&HeadSize);
     let read = talk.from.seen();
     octets::put(&mut head, 0, octets::part(read, 0, input::head_size(read)));
     talk.begin();

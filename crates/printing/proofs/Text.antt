@@ -40,28 +40,6 @@ pub digits_decimal : (n : ℕ) → n < 2 ^ 64 → decimal_text n ≡ decimal n
 unfolding decimal
 digits_decimal n h = sym (decimal_from_appends figures appends 20 n h (length-decimal-le 20 n (omega arith) (omega arith) h))
 
--- the hex figures in their order
-pub figure_at : (n : ℕ) → n < 16
-    → get_or (48 ∷ 49 ∷ 50 ∷ 51 ∷ 52 ∷ 53 ∷ 54 ∷ 55 ∷ 56 ∷ 57 ∷ 65 ∷ 66 ∷ 67 ∷ 68 ∷ 69 ∷ 70 ∷ []) n 0 ≡ hex_figure n
-unfolding hex_figure
-figure_at zero h = refl
-figure_at (suc zero) h = refl
-figure_at (suc (suc zero)) h = refl
-figure_at (suc (suc (suc zero))) h = refl
-figure_at (suc (suc (suc (suc zero)))) h = refl
-figure_at (suc (suc (suc (suc (suc zero))))) h = refl
-figure_at (suc (suc (suc (suc (suc (suc zero)))))) h = refl
-figure_at (suc (suc (suc (suc (suc (suc (suc zero))))))) h = refl
-figure_at (suc (suc (suc (suc (suc (suc (suc (suc zero)))))))) h = refl
-figure_at (suc (suc (suc (suc (suc (suc (suc (suc (suc zero))))))))) h = refl
-figure_at (suc (suc (suc (suc (suc (suc (suc (suc (suc (suc zero)))))))))) h = refl
-figure_at (suc (suc (suc (suc (suc (suc (suc (suc (suc (suc (suc zero))))))))))) h = refl
-figure_at (suc (suc (suc (suc (suc (suc (suc (suc (suc (suc (suc (suc zero)))))))))))) h = refl
-figure_at (suc (suc (suc (suc (suc (suc (suc (suc (suc (suc (suc (suc (suc zero))))))))))))) h = refl
-figure_at (suc (suc (suc (suc (suc (suc (suc (suc (suc (suc (suc (suc (suc (suc zero)))))))))))))) h = refl
-figure_at (suc (suc (suc (suc (suc (suc (suc (suc (suc (suc (suc (suc (suc (suc (suc zero))))))))))))))) h = refl
-figure_at (suc (suc (suc (suc (suc (suc (suc (suc (suc (suc (suc (suc (suc (suc (suc (suc n)))))))))))))))) h = absurd (omega arith)
-
 -- pairs: how many octets they have, and one more behind the first i
 pub pairs_length : (before octets : List ℕ) → length (pairs before octets) ≡ length octets * (length before + 2)
 unfolding pairs pair_of

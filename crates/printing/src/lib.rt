@@ -3,23 +3,27 @@
 ghost use Rattle.std.specs.Prelude.{◌+◌, ◌*◌, ◌≤◌, ◌<◌, ℕ, List, [], ◌++◌, ◌≡◌, ltb, length, take};
 ghost use Rattle.octets.specs.Calls.{added};
 ghost use Rattle.octets.specs.Keeping.{kept_of};
-ghost use Rattle.printing.specs.Text.{decimal, pair_of, pairs};
+ghost use Rattle.printing.specs.Text.{decimal, hex_figure, pair_of, pairs};
 ghost use Rattle.printing.specs.Line.{space, newline, word, beginning, dash_for, time_text, line_of, gap_line, PutAt, Lined};
 
 use deeds::Order;
 use octets::Kept;
 use std::marker::Model;
 
-const HEX_FIGURES: [u8; 16] = *b"0123456789ABCDEF";
+// A figure in hex. It is worked out and not looked up: so the pairs of a line are laid many at a time, where a table is asked for each figure.
+#[tactic(auto, unfolding(crate::specs::Text::hex_figure))]
+fn hex_figure(n: u8) -> u8
+    requires { n < 16 }
+    ensures { result ≡ hex_figure n }
+{
+    if n < 10 { b'0' + n } else { b'A' - 10 + n }
+}
 
-// An octet in hex. The table is plainer here than a formatter: a line is laid from arrays, in no String.
+// An octet in hex. That is plainer here than a formatter: a line is laid from arrays, in no String.
 fn pair(octet: u8) -> [u8; 2]
     ensures { result ≡ pair_of octet }
 {
-    [
-        HEX_FIGURES[(octet / 16) as usize],
-        HEX_FIGURES[(octet % 16) as usize],
-    ]
+    [hex_figure(octet / 16), hex_figure(octet % 16)]
 }
 
 // An order as a word.
@@ -97,32 +101,29 @@ impl Head {
             Order::SetDates => self.put_pairs(octets::part(time, 0, 10)),
         }
     }
-}
 
-// What both lines begin with.
-fn begin(first: u64, second: u64, order: Order) -> Head
-    ensures { result ≡ beginning first second order }
-{
-    let mut head = Head::new();
-    head.put_decimal(first);
-    head.put(b" ");
-    head.put_decimal(second);
-    head.put(b" ");
-    head.put(word(order));
-    head
-}
+    // What both lines begin with.
+    fn begin(&mut self, first: u64, second: u64, order: Order)
+        ensures { self.old ≡ [] → self.new ≡ beginning first second order }
+    {
+        self.put_decimal(first);
+        self.put(b" ");
+        self.put_decimal(second);
+        self.put(b" ");
+        self.put(word(order));
+    }
 
-// The head of a gap's line.
-fn gap_head(number: u64, count: u64, order: Order, time: &[u8], damaged: u64) -> Head
-    ensures { result ≡ beginning number count order ++ space ++ time_text order time.now ++ space ++ decimal damaged ++ space }
-{
-    let mut head = begin(number, count, order);
-    head.put(b" ");
-    head.put_time(order, time);
-    head.put(b" ");
-    head.put_decimal(damaged);
-    head.put(b" ");
-    head
+    // The head of a gap's line.
+    fn put_gap(&mut self, number: u64, count: u64, order: Order, time: &[u8], damaged: u64)
+        ensures { self.old ≡ [] → self.new ≡ beginning number count order ++ space ++ time_text order time.now ++ space ++ decimal damaged ++ space }
+    {
+        self.begin(number, count, order);
+        self.put(b" ");
+        self.put_time(order, time);
+        self.put(b" ");
+        self.put_decimal(damaged);
+        self.put(b" ");
+    }
 }
 
 // What stands for a reply that has no octets.
@@ -198,7 +199,8 @@ pub fn put_text(out: &mut [u8], text: &[u8]) -> usize
 pub fn line(out: &mut [u8], number: u64, res: u8, order: Order, reply: &[u8]) -> usize
     ensures { Lined out.old (line_of number res order reply.now) result out.new }
 {
-    let mut head = begin(number, u64::from(res), order);
+    let mut head = Head::new();
+    head.begin(number, u64::from(res), order);
     head.put(dash(reply));
     lay(out, head.as_slice(), b" ", reply)
 }
@@ -215,7 +217,8 @@ pub fn gap_line(
 ) -> usize
     ensures { Lined out.old (gap_line number length order time damaged buffer.now) result out.new }
 {
-    let head = gap_head(
+    let mut head = Head::new();
+    head.put_gap(
         u64::from(number),
         u64::from(length),
         order,

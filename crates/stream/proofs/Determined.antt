@@ -20,8 +20,7 @@ use Rattle.stream.proofs.Input.take.Reads as take
 use Rattle.stream.proofs.Input.read.Reads as input_read
 use Rattle.stream.proofs.Output.out.Reads as output_out
 use Rattle.stream.proofs.Output.tell.Reads as output_tell
-use Rattle.stream.specs.contracts.Window.read as reading
-use Rattle.stream.specs.contracts.Input.read as input_reading
+use Rattle.stream.specs.declared.Sizes as sizes
 
 seen_one : OneReading (λ κs r. r.now) seen.Post
 seen_one κs a r r' s s' = one_outcome
@@ -58,20 +57,19 @@ take_space_one κs a r r' s s' e f = (refl, one_outcome e.1 f.1)
 
 -- of reading, where as many octets as are said stand in the window already. Where fewer stand, what comes in is left open, and so is the size
 -- that is said, if more than one may be
-module _ (F : RattleType) (laws : Laws F) (a b c d : Dict) where
-  read_one : (g : reading.F-Fn.Ghosts F) → OneOutcome (λ κs s. s.1.1.0.now)
-      (λ κs x r s. (p : read.Post F laws g a b c d κs x r s) × (has_in x.1.1.0.now x.0 p.0 ≡ true))
-  read_one g κs x r r' s s' (p, e) (q, f) =
+module _ (S : RattleType) (laws : Laws S) (g : sizes.Ghosts S.Denot) (a : Dict) where
+  read_one : OneOutcome (λ κs s. s.1.1.0.now)
+      (λ κs x r s. (p : read.Post S laws g a κs x r s) × (has_in x.1.1.0.now x.0 p.0 ≡ true))
+  read_one κs x r r' s s' (p, e) (q, f) =
       (one_outcome (p.2.same_window e) (q.2.same_window f), one_outcome (p.2.unchanged e) (q.2.unchanged f))
 
-  module _ (g : input_reading.F-Fn.Ghosts F) where
-    input_read_window_one : OneOutcome (λ κs s. s.0.now.window)
-        (λ κs x r s. (p : input_read.Post F laws g a b c d κs x r s) × (has_in x.0.now.space.now x.0.now.window p.0 ≡ true))
-    input_read_window_one κs x r r' s s' (p, e) (q, f) = (refl, one_outcome (p.2.same_window e) (q.2.same_window f))
+  input_read_window_one : OneOutcome (λ κs s. s.0.now.window)
+      (λ κs x r s. (p : input_read.Post S laws g a κs x r s) × (has_in x.0.now.space.now x.0.now.window p.0 ≡ true))
+  input_read_window_one κs x r r' s s' (p, e) (q, f) = (refl, one_outcome (p.2.same_window e) (q.2.same_window f))
 
-    input_read_space_one : OneOutcome (λ κs s. s.0.now.space.now)
-        (λ κs x r s. (p : input_read.Post F laws g a b c d κs x r s) × (has_in x.0.now.space.now x.0.now.window p.0 ≡ true))
-    input_read_space_one κs x r r' s s' (p, e) (q, f) = (refl, one_outcome (p.2.unchanged e) (q.2.unchanged f))
+  input_read_space_one : OneOutcome (λ κs s. s.0.now.space.now)
+      (λ κs x r s. (p : input_read.Post S laws g a κs x r s) × (has_in x.0.now.space.now x.0.now.window p.0 ≡ true))
+  input_read_space_one κs x r r' s s' (p, e) (q, f) = (refl, one_outcome (p.2.unchanged e) (q.2.unchanged f))
 
 -- of what a program writes: the block, and that nothing waits. Whether it goes on is the world's answer, but where it has stopped
 output_out_block_one : OneOutcome (λ κs s. s.0.now.block.now) output_out.Post

@@ -20,7 +20,6 @@ use Rattle.stream.specs.declared.Window.{Window}
 use Rattle.stream.specs.declared.Texts.{Texts}
 use Rattle.stream.specs.declared.Input.{Input}
 use Rattle.stream.specs.declared.Output.{Output}
-use Rattle.std.specs.Fn.{FnReturnsAt}
 use Rattle.stream.specs.Window.{count_of, seen_in, has_in, Filled}
 use Rattle.stream.specs.Texts.{added_to}
 use Rattle.stream.proofs.Window.seen.Reads as seen
@@ -34,8 +33,7 @@ use Rattle.stream.proofs.Input.read.Reads as input_read
 use Rattle.stream.proofs.Input.take.Reads as input_take
 use Rattle.stream.proofs.Output.out.Reads as output_out
 use Rattle.stream.proofs.Output.tell.Reads as output_tell
-use Rattle.stream.specs.contracts.Window.read as reading
-use Rattle.stream.specs.contracts.Input.read as input_reading
+use Rattle.stream.specs.declared.Sizes as sizes
 
 abbrev waiting : ℕ → Bool → Texts
 waiting count going = record { count = count; going = going }
@@ -118,30 +116,30 @@ module _ (κs : Lfts 1) (input : Stdin) (x : Place) (space : List ℕ) (w r : Wi
     filled_changed left other s e p = other (sym e ∙ p.unchanged enough)
 
 -- read on, whatever says how many octets are needed
-module _ (F : RattleType) (laws : Laws F) (a b c d : Dict) (says : F.Denot) where
-  module _ (g : reading.F-Fn.Ghosts F) (κs : Lfts 2) (input : Stdin) (x : Place) (space : List ℕ) (w r : Window) where
+module _ (S : RattleType) (laws : Laws S) (g : sizes.Ghosts S.Denot) (a : Dict) (says : Bor S.Denot) where
+  module _ (κs : Lfts 3) (input : Stdin) (x : Place) (space : List ℕ) (w r : Window) where
     -- what has not been taken left out of what is read on: a window with fewer octets
-    read_lost : count_of r < length (seen_in space w) → RuledOut (read.Post F laws g a b c d κs) (w, (input, (lent_mut x space, (says, tt)))) r
+    read_lost : count_of r < length (seen_in space w) → RuledOut (read.Post S laws g a κs) (w, (input, (lent_mut x space, (says, tt)))) r
     read_lost fewer s p = lost p.2 fewer
 
     -- read on past the space
-    read_past : length space < r.to → RuledOut (read.Post F laws g a b c d κs) (w, (input, (lent_mut x space, (says, tt)))) r
+    read_past : length space < r.to → RuledOut (read.Post S laws g a κs) (w, (input, (lent_mut x space, (says, tt)))) r
     read_past past s p = omega (arith, p.2.in_space, p.2.same_length)
 
     -- another window where as many octets as are said stand there already
-    read_again : ((n : ℕ) → FnReturnsAt (reading.F-Fn-ghosts F g a b c d) says (seen_in space w) n → has_in space w n ≡ true) → (r ≡ w → ⊥)
-        → RuledOut (read.Post F laws g a b c d κs) (w, (input, (lent_mut x space, (says, tt)))) r
+    read_again : ((n : ℕ) → g.says says.now (seen_in space w) n → has_in space w n ≡ true) → (r ≡ w → ⊥)
+        → RuledOut (read.Post S laws g a κs) (w, (input, (lent_mut x space, (says, tt)))) r
     read_again enough other s p = other (p.2.same_window (enough p.0 p.1))
 
-  module _ (g : input_reading.F-Fn.Ghosts F) (κs : Lfts 3) (i : MutBor Input) where
+  module _ (κs : Lfts 4) (i : MutBor Input) where
     -- what has not been taken left out of a program's input: a window with fewer octets
     input_read_lost : (r : Window) → count_of r < length (seen_in i.now.space.now i.now.window)
-        → RuledOutWith (λ s. s.0.now.window) (input_read.Post F laws g a b c d κs) (i, (says, tt)) tt r
+        → RuledOutWith (λ s. s.0.now.window) (input_read.Post S laws g a κs) (i, (says, tt)) tt r
     input_read_lost r fewer s e p = lost p.2 (rw e fewer)
 
     -- a program's space that has another length
     input_read_length : (left : List ℕ) → (length left ≡ length i.now.space.now → ⊥)
-        → RuledOutWith (λ s. s.0.now.space.now) (input_read.Post F laws g a b c d κs) (i, (says, tt)) tt left
+        → RuledOutWith (λ s. s.0.now.space.now) (input_read.Post S laws g a κs) (i, (says, tt)) tt left
     input_read_length left other s e p = other (ap length (sym e) ∙ p.2.same_length)
 
 -- what a program reads, seen and taken

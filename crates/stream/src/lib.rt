@@ -3,13 +3,29 @@
 // Octets from standard input and text to standard output, both by the block. One read brings what is there, which may be many runs; none is
 // made while enough octets stand in the window, and none waits for more than is asked for. Texts wait in a block until it is full, or until
 // the program is about to read.
-ghost use Rattle.std.specs.Prelude.{◌+◌, ◌-◌, ◌≤◌, false, true, ◌≡◌, length, take, drop};
-ghost use Rattle.std.specs.Fn.{FnReturnsAt};
+ghost use Rattle.std.specs.Prelude.{◌+◌, ◌-◌, ◌≤◌, ℕ, List, false, true, ◌≡◌, length, take, drop};
+ghost use Rattle.std.specs.Io.KnownBytes.{Appends};
 ghost use Rattle.octets.specs.Over.{laid_in, Does};
 ghost use Rattle.stream.specs.Texts.{Out, AddedFirst, Added, Told};
 ghost use Rattle.stream.specs.Window.{count_of, seen_in, taken_of, has_in, Kept, Filled, FilledAs};
 
+use std::fmt;
 use std::io::{Read, Stdin, Stdout, Write};
+
+// How many octets what stands first in an input has, as far as those read tell: of the first ones it may only be known how many are needed to
+// know more.
+pub trait Sizes {
+    // How often it is asked, from no octets on, until it has said all.
+    const TURNS: u8;
+
+    ghost TURNS: { ℕ };
+
+    // What it may say of some octets.
+    ghost says: { Self → List ℕ → ℕ → Type 0 };
+
+    fn size(&self, read: &[u8]) -> usize
+        ensures { says self.now read.now result };
+}
 
 // What has been read and not taken yet: the octets of a space from one index to another.
 #[derive(Clone, Copy, Default)]
@@ -75,21 +91,20 @@ impl Window {
         }
     }
 
-    // Reads on until as many octets stand in the window as `size` says of those that stand there, the space is full, or the input ends: of the
-    // first octets it may say how many are needed to say more. Each turn reads once. What is promised is that of `filled` at the first size said.
-    pub fn read<F: Fn(&[u8]) -> usize>(self, input: Stdin, space: &mut [u8], size: F) -> Window
-        requires { F.IsAlwaysCallable size }
-        ensures { FilledAs (FnReturnsAt F.Fn size) space.old self result space.new }
+    // Reads on until as many octets stand in the window as the sizes say of those that stand there, the space is full, or the input ends: where
+    // not even the first ones stand there it reads for them, and then once more each time that the sizes are asked anew. What is promised is
+    // that of `filled` at the first size said.
+    pub fn read<S: Sizes>(self, input: Stdin, space: &mut [u8], sizes: &S) -> Window
+        ensures { FilledAs (S.says sizes.now) space.old self result space.new }
     {
         let mut now = self;
-        loop {
-            let had = now.seen(space).len();
-            let next = now.filled(input, space, size(now.seen(space)));
-            if next.seen(space).len() == had {
-                return next;
-            }
-            now = next;
+        if now.seen(space).len() < sizes.size(b"") {
+            now = now.filled(input, space, sizes.size(now.seen(space)));
         }
+        for _ in 2..S::TURNS {
+            now = now.filled(input, space, sizes.size(now.seen(space)));
+        }
+        now.filled(input, space, sizes.size(now.seen(space)))
     }
 }
 
@@ -126,12 +141,31 @@ pub struct Texts {
     pub going: bool,
 }
 
+// Writes a text, and answers whether it could. Where it could, what the writer holds, if that is known, has the text behind it.
+fn write_whole<W: Write>(to: &mut W, text: &[u8]) -> bool
+    ensures { result ≡ true → Appends (W.contents to.old) (W.contents to.new) text.now }
+{
+    to.write_all(text).is_ok()
+}
+
 // Writes a text to standard output or error, and answers whether it could. Nothing can be promised: no contract speaks of the world outside, and
 // whether it could be written is the world's answer.
 pub fn say<W: Write + Drop>(mut to: W, text: &[u8]) -> bool
     ensures { Unit {0} }
 {
-    to.write_all(text).is_ok()
+    write_whole(&mut to, text)
+}
+
+// Writes a text piece by piece, as it is put together. A piece that cannot be written is lost, and those behind it are still tried: for programs that
+// have no one to tell.
+#[derive(Drop)]
+pub struct Pieces<W>(pub W);
+
+impl<W: Write> fmt::Write for Pieces<W> {
+    fn write_str(&mut self, piece: &str) -> fmt::Result {
+        write_whole(&mut self.0, piece.as_bytes());
+        Ok(())
+    }
 }
 
 impl Texts {
@@ -218,11 +252,10 @@ impl<'a> Input<'a> {
     }
 
     // Reads on as `Window::read` does.
-    pub fn read<F: Fn(&[u8]) -> usize>(&mut self, size: F)
-        requires { F.IsAlwaysCallable size }
-        ensures { FilledAs (FnReturnsAt F.Fn size) self.old.space.now self.old.window self.new.window self.new.space.now }
+    pub fn read<S: Sizes>(&mut self, sizes: &S)
+        ensures { FilledAs (S.says sizes.now) self.old.space.now self.old.window self.new.window self.new.space.now }
     {
-        self.window = self.window.read(self.from, self.space, size);
+        self.window = self.window.read(self.from, self.space, sizes);
     }
 
     // So many octets are taken, or as many as there are.

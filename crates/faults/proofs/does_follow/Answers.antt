@@ -2,7 +2,6 @@
 -- The first has none before it; else by the keys of the two. Assumes nothing.
 use mathlib.Core.Path.{sym, ◌∙◌}
 use borrow.Author.Tests.{eq-eqb}
-use Rattle.fields.proofs.Parts.{key_whole}
 use Rattle.faults.proofs.Walking.{first_follows, follow_keys}
 use Rattle.faults.proofs.does_follow.Goals as goal
 
@@ -10,4 +9,4 @@ pub returns-then-walk-eq0 : goal.returns-then-walk-eq0
 returns-then-walk-eq0 c = λ before s. rw (eq-eqb _ _ c.if-walk-eq0.true) (first_follows before _ (sym s.counted ∙ c.if-walk-eq0.true))
 
 pub returns-else-walk-eq0 : goal.returns-else-walk-eq0
-returns-else-walk-eq0 c = λ before s. c.in_order.ensures ∙ follow_keys _ before _ s _ _ c.if-walk-eq0.false c.key_at.ensures (c.key_at-else-walk-eq0.ensures ∙ key_whole _ _ c.requires)
+returns-else-walk-eq0 c = λ before s. c.in_order.ensures ∙ follow_keys _ before _ s _ _ c.if-walk-eq0.false c.key_at.ensures c.requires.1

@@ -3,11 +3,12 @@
 use Prim.Native.Nat.{◌-◌}
 use mathlib.Core.Path.{◌≡◌}
 use lib.ListN.{length}
+use Rattle.records.specs.Records.{place_after}
 use Rattle.image.specs.working.Keys.{orderly, left}
 use Rattle.image.proofs.is_orderly.Given as goal
 
-abbrev pub invariant-loop-here : goal.invariant-loop-here
-invariant-loop-here l = left l.image l.walk.at l.walk.last ≡ orderly l.image
+abbrev pub invariant-loop-walk : goal.invariant-loop-walk
+invariant-loop-walk l = (l.next ≡ place_after l.image l.walk.at) × (left l.image l.walk.at l.walk.last ≡ orderly l.image)
 
-abbrev pub decreases-loop-here : goal.decreases-loop-here
-decreases-loop-here l = length l.image - l.walk.at
+abbrev pub decreases-loop-walk : goal.decreases-loop-walk
+decreases-loop-walk l = length l.image - l.walk.at

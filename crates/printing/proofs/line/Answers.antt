@@ -6,5 +6,5 @@ use Rattle.printing.proofs.line.Goals as goal
 pub returns : goal.returns
 returns c =
     let a = c.args in
-    let whole = run_line a.number a.res a.order a.reply.now (rw c.from.ensures at c.begin-head.ensures) c.dash.ensures c.put.ensures in
+    let whole = run_line a.number a.res a.order a.reply.now (rw c.from.ensures at (c.begin.ensures c.new-head.ensures)) c.dash.ensures c.put.ensures in
     rw (c.as_slice.ensures, whole) at c.lay.ensures

@@ -1,8 +1,0 @@
--- `begin` answers what both lines begin with.
--- Column behind column. Assumes nothing.
-use Rattle.printing.proofs.Lines.{begun}
-use Rattle.printing.proofs.begin.Goals as goal
-
-pub returns : goal.returns
-returns c =
-    begun c.args.first c.args.second c.args.order c.new-head.ensures c.put_decimal.ensures c.put.ensures c.put_decimal-2.ensures c.put-2.ensures c.word.ensures c.put-3.ensures

@@ -1,9 +1,0 @@
--- `gap_head` answers the head of a gap's line.
--- Column behind column. Assumes nothing.
-use Rattle.printing.proofs.Lines.{headed}
-use Rattle.printing.proofs.gap_head.Goals as goal
-
-pub returns : goal.returns
-returns c =
-    let a = c.args in
-    headed a.number a.count a.order a.time.now a.damaged c.begin-head.ensures c.put.ensures c.put_time.ensures c.put-2.ensures c.put_decimal.ensures c.put-3.ensures
